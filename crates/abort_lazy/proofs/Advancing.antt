@@ -1,28 +1,32 @@
--- One level of events after another, by one runner and by all.
+-- One part of a level after another, by one runner.
 use Rattle.std.proofs.Common.{◌≡◌, ℕ, ◌+◌, ◌<◌, ◌≤◌, false, eqb, List, [], ◌∷◌, ◌++◌, length, refl, sym, ap, ◌∙◌, subst, inl, inr, arith}
-use Rattle.std.specs.Prelude.{Contains, All, slice_index_or, sum_by}
-use Rattle.std.proofs.lemmas.Bool.{ne_eqb, cases_eq, cond-false}
+use Rattle.std.specs.Prelude.{Contains, All, sum_by}
+use Rattle.std.proofs.lemmas.Bool.{ne_eqb, cond-false}
 use Rattle.std.proofs.lemmas.List.Elements.{Contains-append_cases, Contains-append_right, Contains-append_left}
 use Rattle.std.proofs.lemmas.List.Sums.{sum_by-append, sum_by-cons}
 use Rattle.morph_base.specs.declared.plan.Plan.{Plan}
 use Rattle.morph_base.specs.declared.limits.TheConstants.{EVENTS}
-use Rattle.morph_base.specs.Graphs.{below, IsGraph, IsValidPlan}
+use Rattle.morph_base.specs.Graphs.{below, IsGraph}
 use Rattle.morph_base.specs.Plans.{IsPlan, event_at, event_count}
 use Rattle.op_words.specs.declared.board.Board.{Board}
-use Rattle.op_words.specs.Counting.{place, times}
-use Rattle.op_words.specs.Hands.{plan_of, counters_of, IsHandOf}
+use Rattle.op_words.specs.Counting.{place}
+use Rattle.op_words.specs.Hands.{IsHandOf}
 use Rattle.op_words.specs.Views.{IsTrailNoted}
+use Rattle.op_words.proofs.Sizes.{sum_above}
 use Rattle.op_eval.specs.declared.runner.Runner.{Runner}
 use Rattle.op_eval.specs.Running.{hand_view}
 use Rattle.op_eval.proofs.Elements.{contains_first, contains_later, contains_none}
 use Rattle.op_eval.proofs.Turns.{in_turn_append}
 use Rattle.op_eval.specs.Turns.{TakingCall, Took, Tried, IsEnough}
-use Rattle.worker_gate.specs.Sharing.{shared_from}
-use Rattle.abort_lazy.specs.Sweeps.{IsThrough, MakesCalls, MakesCall, Swept, AreSwept, FitsBoard, CanSweep, tried_by, taken_by, weight_at}
-use Rattle.abort_lazy.specs.Runs.{Rising, HasTried, IsSettling, AreSettling, events_of, event_in}
-use Rattle.abort_lazy.proofs.Alone.{settled_alone}
-use Rattle.abort_lazy.proofs.Levelling.{level_is, next_room, events_inside, events_few}
-use Rattle.abort_lazy.proofs.Summing.{sum_more, below_same}
+use Rattle.worker_gate.specs.declared.parts.Shares.{Shares}
+use Rattle.worker_gate.specs.Parts.{part_counter, part_items}
+use Rattle.worker_gate.proofs.Cutting.{part_inside, part_short}
+use Rattle.worker_gate.proofs.Ordering.{counter_fits}
+use Rattle.abort_lazy.specs.Levels.{FitsLevels}
+use Rattle.abort_lazy.specs.Sweeps.{MakesCalls, MakesCall, Swept, FitsBoard, tried_by, taken_by, weight_at}
+use Rattle.abort_lazy.specs.Runs.{Rising, HasTriedParts, IsSettlingParts, events_of, parted_event, parted_events, settling_counters}
+use Rattle.abort_lazy.proofs.Levelling.{events_inside, events_few}
+use Rattle.abort_lazy.proofs.Summing.{below_same, sum_plus, sum_single}
 use Rattle.abort_lazy.proofs.Trying.{calls_free, calls_tag, calls_made, calls_room, calls_joined, calls_hold, calls_times, calls_left}
 
 module _ (p : Plan) where
@@ -65,196 +69,164 @@ took_none c weight (Tried i ∷ cs) none =
     omega (arith, rest, first)
 
 -- nothing was tried yet
-pub tried_none : (p : Plan) (from : ℕ) (a : Runner) → HasTried p from 0 a a
-tried_none p from a = record {
+pub tried_none : (p : Plan) (from parts level : ℕ) (Done : ℕ → Type 0) (a : Runner) → HasTriedParts p from parts level Done a a
+tried_none p from parts level Done a = record {
   calls = [];
   made = refl;
-  turns = λ weight. refl;
+  turns = λ weight. sym (sum_above (λ k. 0) (settling_counters p) (λ k lt. refl));
   rising = tt;
   below = λ i found. absurd (contains_none (Tried i) found);
   only = λ c n found. absurd (contains_none (Took c n) found);
-  tried = λ l n found lt. absurd (contains_none (Took (from + l) n) found);
+  tried = λ k n found lt. absurd (contains_none (Took (from + k) n) found);
   inside = λ i found. absurd (contains_none (Tried i) found);
   left = λ x empty found. absurd (contains_none x (subst (λ zs. Contains zs x) empty found));
 }
 
-module _ (p : Plan) (valid : IsPlan p) (graph : IsGraph p) (from level : ℕ) (lt : level < length p.event_levels.items) where
-  module _ (a m b : Runner) (noted : IsTrailNoted (hand_view a)) (before : HasTried p from level a m) (swept : Swept p (from + level) (events_of p level) m b) where
-    now : (i : ℕ) → Contains swept.calls (Tried i) → (event_at p i).level ≡ level + 1
-    now i found = let is = swept.inside i found in ap (λ k. (event_at p k).level) (sym is.2) ∙ level_is p graph level is.0 lt is.1
-
-    all_calls : List TakingCall
-    all_calls = swept.calls ++ before.calls
-
-    in_new : (x : TakingCall) → Contains swept.calls x → Contains (swept.calls ++ before.calls) x
-    in_new x found = Contains-append_left swept.calls before.calls x found
-
-    in_old : (x : TakingCall) → Contains before.calls x → Contains (swept.calls ++ before.calls) x
-    in_old x found = Contains-append_right swept.calls before.calls x found
-
-    made_all : MakesCalls p (swept.calls ++ before.calls) a b
-    made_all = in_turn_append (MakesCall p) swept.calls before.calls a m b before.made swept.made
-
-    rising_all : Rising p (swept.calls ++ before.calls)
-    rising_all =
-        rising_append p swept.calls before.calls before.rising (rising_level p (level + 1) swept.calls now)
-        (λ i j low high. let l = before.below i low in let h = now j high in omega (arith, l, h))
-
-    turns_all : (weight : ℕ → ℕ)
-        → sum_by (tried_by weight) (swept.calls ++ before.calls)
-        ≡ sum_by (λ l. sum_by (taken_by (from + l) (weight_at (events_of p l) weight)) (swept.calls ++ before.calls)) (below (level + 1))
-    turns_all weight =
-        let tried = sum_by-append (tried_by weight) swept.calls before.calls in
-        let new = swept.turns weight in
-        let old = before.turns weight in
-        let more = sum_more (λ l. sum_by (of_level l) (swept.calls ++ before.calls)) level in
-        let last = sum_by-append (of_level level) swept.calls before.calls in
-        let none = took_none (from + level) (weight_at (events_of p level) weight) before.calls (λ n found. let is = before.only (from + level) n found in let low = is.1 in let same = is.2 in omega (arith, low, same)) in
-        let same =
-        below_same (λ l. sum_by (of_level l) (swept.calls ++ before.calls)) (λ l. sum_by (of_level l) before.calls) level
-        (λ l less.
-        let two = sum_by-append (of_level l) swept.calls before.calls in
-        let zero_new = took_none (from + l) (weight_at (events_of p l) weight) swept.calls (λ n found. let is = swept.only (from + l) n found in omega (arith, less, is)) in
-        omega (arith, two, zero_new)) in
-        omega (arith, tried, new, old, more, last, none, same)
-      where
-        of_level : ℕ → TakingCall → ℕ
-        of_level l = taken_by (from + l) (weight_at (events_of p l) weight)
-
-    tried_more : HasTried p from (level + 1) a b
-    tried_more = record {
-      calls = swept.calls ++ before.calls;
-      made = made_all;
-      turns = turns_all;
-      rising = rising_all;
-      below = λ i found.
-          elim (Contains-append_cases swept.calls before.calls (Tried i) found) [
-            | inl here ↦ let h = now i here in omega (arith, h)
-            | inr old ↦ let l = before.below i old in omega (arith, l)
-          ];
-      only = λ c n found.
-          elim (Contains-append_cases swept.calls before.calls (Took c n) found) [
-            | inl here ↦ (level, omega arith, swept.only c n here)
-            | inr old ↦ let is = before.only c n old in (is.0, (let less = is.1 in omega (arith, less)), is.2)
-          ];
-      tried = λ l n found less.
-          elim (Contains-append_cases swept.calls before.calls (Took (from + l) n) found) [
-            | inl here ↦
-                let is = swept.only (from + l) n here in
-                let same : l ≡ level = omega (arith, is) in
-                in_new (Tried (event_in p l n)) (subst (λ k. Contains swept.calls (Tried (event_in p k n))) (sym same)
-                (swept.tried n (subst (λ k. Contains swept.calls (Took k n)) is here) (subst (λ k. n < length (events_of p k)) same less)))
-            | inr old ↦ in_old (Tried (event_in p l n)) (before.tried l n old less)
-          ];
-      inside = λ i found.
-          elim (Contains-append_cases swept.calls before.calls (Tried i) found) [
-            | inl here ↦ let is = swept.inside i here in (level, is.0, omega arith, is.1, is.2, in_new (Took (from + level) is.0) is.3)
-            | inr old ↦ let is = before.inside i old in (is.0, is.1, (let less = is.2 in omega (arith, less)), is.3, is.4, in_old (Took (from + is.0) is.1) is.5)
-          ];
-      left = λ x empty found. calls_left p valid graph (swept.calls ++ before.calls) a b noted empty rising_all made_all x found;
-    }
-
-    pub settling_one : (board : Board) → IsHandOf board b.hand → IsSettling board p from level a m → IsSettling board p from (level + 1) a b
-    settling_one board hand old = record {
-      tried = tried_more;
-      hand = hand;
-      free = calls_free p swept.calls m b swept.made old.free;
-      unused = λ c above. calls_times p c (from + level) (λ same. absurd (omega (arith, above, same))) swept.calls m b swept.only swept.made ∙ old.unused c (omega (arith, above));
-      room = let next = next_room p graph level lt in let had = old.room in let used = swept.room in omega (arith, next, had, used);
-      tag = calls_tag p swept.calls m b swept.made ∙ old.tag;
-      made = calls_made p swept.calls m b swept.made ∙ old.made;
-      journal_room = calls_room p swept.calls m b swept.made ∙ old.journal_room;
-      joined = calls_joined p swept.calls m b swept.made ∙ old.joined;
-    }
-
-  enough_hold : (c many : ℕ) (calls : List TakingCall) (m b : Runner) → MakesCalls p calls m b → IsEnough c many m → IsEnough c many b
-  enough_hold c many calls m b made is =
-      elim is [ inl none ↦ inl none | inr last ↦ inr (last.0, calls_hold p calls m b made (place c last.0) last.1, last.2) ]
-
-  pub settling_more : (board : Board) (start rs qs : List Runner) → ((k : ℕ) (d : Runner) → k < length start → IsTrailNoted (hand_view (slice_index_or start k d)))
-      → from + (level + 1) ≤ counters_of board → AreSettling board p from level start rs → AreSwept board p (from + level) (events_of p level) rs qs
-      → AreSettling board p from (level + 1) start qs
-  settling_more board start rs qs noted counters settling swept = record {
-    counters = counters;
-    len = swept.len ∙ settling.len;
-    each = λ k d less.
-        let before : k < length rs = subst (λ n. k < n) swept.len less in
-        let old = settling.each k d before in
-        let swept-one = swept.each k d before in
-        settling_one (slice_index_or start k d) (slice_index_or rs k d) (slice_index_or qs k d) (noted k d (subst (λ n. k < n) settling.len before)) old.tried swept-one board (swept.hands k d less) old;
-    enough = λ l less.
-        elim (cases_eq l level) [
-          | inl same ↦
-              let last = swept.through in (
-                last.0,
-                subst (λ n. last.0 < n) (sym swept.len) last.1,
-                λ d. let through = last.2 d in subst (λ k. IsEnough (from + k) (length (events_of p k)) (slice_index_or qs last.0 d)) (sym same) through.enough,
-              )
-          | inr other ↦
-              let old = settling.enough l (omega (arith, less, other)) in (
-                old.0,
-                subst (λ n. old.0 < n) (sym swept.len) old.1,
-                λ d. let one-swept = swept.each old.0 d old.1 in enough_hold (from + l) (length (events_of p l)) one-swept.calls (slice_index_or rs old.0 d) (slice_index_or qs old.0 d) one-swept.made (old.2 d),
-              )
-        ];
-    first = λ l less few k d above lt.
-        let before : k < length rs = subst (λ n. k < n) swept.len lt in
-        let one-swept = swept.each k d before in
-        elim (cases_eq l level) [
-          | inl same ↦
-              let few-now : length (events_of p level) < shared_from = subst (λ j. length (events_of p j) < shared_from) same few in
-              let old = settling.each k d before in
-              ap (λ (r : Runner). times (from + l) (hand_view r).places) (swept.first few-now k d above before) ∙ old.unused (from + l) (omega (arith, same))
-          | inr other ↦
-              calls_times p (from + l) (from + level) (λ same. absurd (omega (arith, less, other, same))) one-swept.calls (slice_index_or rs k d) (slice_index_or qs k d) one-swept.only one-swept.made
-              ∙ settling.first l (omega (arith, less, other)) few k d above before
-        ];
-    shared = λ l less many k d lt.
-        let before : k < length rs = subst (λ n. k < n) swept.len lt in
-        let one-swept = swept.each k d before in
-        elim (cases_eq l level) [
-          | inl same ↦
-              let many-now : shared_from ≤ length (events_of p level) = subst (λ j. shared_from ≤ length (events_of p j)) same many in
-              let through = swept.shared many-now k d before in
-              subst (λ j. IsEnough (from + j) (length (events_of p j)) (slice_index_or qs k d)) (sym same) through.enough
-          | inr other ↦
-              enough_hold (from + l) (length (events_of p l)) one-swept.calls (slice_index_or rs k d) (slice_index_or qs k d) one-swept.made
-              (settling.shared l (omega (arith, less, other)) many k d before)
-        ];
-    alone = λ only d lone.
-        let some : 0 < length rs = (let len = settling.len in omega (arith, len, only)) in
-        let old = settling.each 0 d some in
-        let swept-one = swept.each 0 d some in
-        let last = swept.through in
-        let first : last.0 ≡ 0 = (let below = last.1 in let len = settling.len in omega (arith, below, len, only)) in
-        settled_alone p valid graph (from + level) level (slice_index_or start 0 d) (slice_index_or rs 0 d) (slice_index_or qs 0 d) lt
-        (record { root = old.tag ∙ lone.root; alone = old.made ∙ lone.alone }) (settling.alone only d lone) swept-one
-        (subst (λ k. IsThrough (from + level) (events_of p level) (slice_index_or rs k d) (slice_index_or qs k d)) first (last.2 d));
+module _ (b : Board) (p : Plan) (from parts : ℕ) where
+  -- a runner that is about to go on, as one that begins
+  pub settling_again : (level : ℕ) (Done : ℕ → Type 0) (room_for : ℕ) (a r : Runner) → IsSettlingParts b p from parts level Done room_for a r → IsSettlingParts b p from parts level Done room_for r r
+  settling_again level Done room_for a r old = record {
+    tried = tried_none p from parts level Done r;
+    hand = old.hand;
+    free = old.free;
+    unused = old.unused;
+    room = old.room;
+    tag = refl;
+    made = refl;
+    journal_room = refl;
+    joined = refl;
   }
 
--- ---- before a level is begun
+  -- more counters are done, or less is to come
+  pub settling_wider : (level high : ℕ) (Done More : ℕ → Type 0) (room_for less : ℕ) → level ≤ high → ((k : ℕ) → Done k → More k) → less ≤ room_for → (a r : Runner)
+      → IsSettlingParts b p from parts level Done room_for a r → IsSettlingParts b p from parts high More less a r
+  settling_wider level high Done More room_for less le within fewer a r old = record {
+    tried = record {
+      calls = old.tried.calls;
+      made = old.tried.made;
+      turns = old.tried.turns;
+      rising = old.tried.rising;
+      below = λ i found. let low = old.tried.below i found in omega (arith, low, le);
+      only = λ c n found. let is = old.tried.only c n found in (is.0, within is.0 is.1, is.2);
+      tried = old.tried.tried;
+      inside = λ i found. let is = old.tried.inside i found in (is.0, is.1, within is.0 is.2, is.3, is.4, is.5);
+      left = old.tried.left;
+    };
+    hand = old.hand;
+    free = old.free;
+    unused = λ k none. old.unused k (λ done. none (within k done));
+    room = let room = old.room in omega (arith, room, fewer);
+    tag = old.tag;
+    made = old.made;
+    journal_room = old.journal_room;
+    joined = old.joined;
+  }
 
-pub fits_level : (b : Board) (p : Plan) (from l : ℕ) → p ≡ plan_of b → IsValidPlan p → l < length p.event_levels.items → from + length p.event_levels.items ≤ counters_of b
-    → (events : List ℕ) → events ≡ events_of p l → FitsBoard b p (from + l) events
-fits_level b p from l plan valid lt counters events same = record {
-  plan = plan;
-  counter = omega (arith, lt, counters);
-  inside = subst (All (λ i. i < event_count p)) (sym same) (events_inside p valid.graph l lt);
+module _ (p : Plan) (valid : IsPlan p) (graph : IsGraph p) (from parts level : ℕ) (Done More : ℕ → Type 0) (within : (k : ℕ) → Done k → More k) (counter : ℕ) (lt : counter < settling_counters p) (here_done : More counter)
+    (a m b : Runner) (noted : IsTrailNoted (hand_view a)) (before : HasTriedParts p from parts level Done a m) (swept : Swept p (from + counter) (parted_events p parts counter) m b)
+    (now : (i : ℕ) → Contains swept.calls (Tried i) → (event_at p i).level ≡ level) where
+  in_new : (x : TakingCall) → Contains swept.calls x → Contains (swept.calls ++ before.calls) x
+  in_new x found = Contains-append_left swept.calls before.calls x found
+
+  in_old : (x : TakingCall) → Contains before.calls x → Contains (swept.calls ++ before.calls) x
+  in_old x found = Contains-append_right swept.calls before.calls x found
+
+  made_all : MakesCalls p (swept.calls ++ before.calls) a b
+  made_all = in_turn_append (MakesCall p) swept.calls before.calls a m b before.made swept.made
+
+  rising_all : Rising p (swept.calls ++ before.calls)
+  rising_all =
+      rising_append p swept.calls before.calls before.rising (rising_level p level swept.calls now)
+      (λ i j low high. let l = before.below i low in let h = now j high in omega (arith, l, h))
+
+  turns_all : (weight : ℕ → ℕ)
+      → sum_by (tried_by weight) (swept.calls ++ before.calls)
+      ≡ sum_by (λ k. sum_by (taken_by (from + k) (weight_at (parted_events p parts k) weight)) (swept.calls ++ before.calls)) (below (settling_counters p))
+  turns_all weight =
+      let tried = sum_by-append (tried_by weight) swept.calls before.calls in
+      let new = swept.turns weight in
+      let old = before.turns weight in
+      let each =
+      below_same (λ k. sum_by (of_counter k) (swept.calls ++ before.calls)) (λ k. sum_by (of_counter k) swept.calls + sum_by (of_counter k) before.calls) (settling_counters p)
+      (λ k less. sum_by-append (of_counter k) swept.calls before.calls) in
+      let both = sum_plus (λ k. sum_by (of_counter k) swept.calls) (λ k. sum_by (of_counter k) before.calls) (below (settling_counters p)) in
+      let single =
+      sum_single (λ k. sum_by (of_counter k) swept.calls) counter (settling_counters p) lt
+      (λ k less other. took_none (from + k) (weight_at (parted_events p parts k) weight) swept.calls (λ n found. let is = swept.only (from + k) n found in other (omega (arith, is)))) in
+      omega (arith, tried, new, old, each, both, single)
+    where
+      of_counter : ℕ → TakingCall → ℕ
+      of_counter k = taken_by (from + k) (weight_at (parted_events p parts k) weight)
+
+  -- a part more
+  pub tried_more : HasTriedParts p from parts level More a b
+  tried_more = record {
+    calls = swept.calls ++ before.calls;
+    made = made_all;
+    turns = turns_all;
+    rising = rising_all;
+    below = λ i found.
+        elim (Contains-append_cases swept.calls before.calls (Tried i) found) [
+          | inl here ↦ let h = now i here in omega (arith, h)
+          | inr old ↦ before.below i old
+        ];
+    only = λ c n found.
+        elim (Contains-append_cases swept.calls before.calls (Took c n) found) [
+          | inl here ↦ (counter, here_done, swept.only c n here)
+          | inr old ↦ let is = before.only c n old in (is.0, within is.0 is.1, is.2)
+        ];
+    tried = λ k n found less.
+        elim (Contains-append_cases swept.calls before.calls (Took (from + k) n) found) [
+          | inl here ↦
+              let is = swept.only (from + k) n here in
+              let same : k ≡ counter = omega (arith, is) in
+              in_new (Tried (parted_event p parts k n)) (subst (λ j. Contains swept.calls (Tried (parted_event p parts j n))) (sym same)
+              (swept.tried n (subst (λ j. Contains swept.calls (Took j n)) is here) (subst (λ j. n < length (parted_events p parts j)) same less)))
+          | inr old ↦ in_old (Tried (parted_event p parts k n)) (before.tried k n old less)
+        ];
+    inside = λ i found.
+        elim (Contains-append_cases swept.calls before.calls (Tried i) found) [
+          | inl here ↦ let is = swept.inside i here in (counter, is.0, here_done, is.1, is.2, in_new (Took (from + counter) is.0) is.3)
+          | inr old ↦ let is = before.inside i old in (is.0, is.1, within is.0 is.2, is.3, is.4, in_old (Took (from + is.0) is.1) is.5)
+        ];
+    left = λ x empty found. calls_left p valid graph (swept.calls ++ before.calls) a b noted empty rising_all made_all x found;
+  }
+
+  pub settling_more : (board : Board) (room_for less : ℕ) → less + length (parted_events p parts counter) ≤ room_for → IsHandOf board b.hand
+      → IsSettlingParts board p from parts level Done room_for a m → IsSettlingParts board p from parts level More less a b
+  settling_more board room_for less fits hand old = record {
+    tried = tried_more;
+    hand = hand;
+    free = calls_free p swept.calls m b swept.made old.free;
+    unused = λ k none.
+        calls_times p (from + k) (from + counter) (λ same. none (subst More (omega (arith, same)) here_done)) swept.calls m b swept.only swept.made ∙ old.unused k (λ done. none (within k done));
+    room = let had = old.room in let used = swept.room in omega (arith, fits, had, used);
+    tag = calls_tag p swept.calls m b swept.made ∙ old.tag;
+    made = calls_made p swept.calls m b swept.made ∙ old.made;
+    journal_room = calls_room p swept.calls m b swept.made ∙ old.journal_room;
+    joined = calls_joined p swept.calls m b swept.made ∙ old.joined;
+  }
+
+-- ---- before a part is begun
+
+pub fits_part : (b : Board) (p : Plan) (from : ℕ) (s : Shares) → FitsLevels b p from s → (level part : ℕ) → level < length p.event_levels.items → part < s.parts → (events : List ℕ)
+    → events ≡ part_items (events_of p level) s.parts part → FitsBoard b p (from + part_counter s.parts level part) events
+fits_part b p from s fits level part lt less events same = record {
+  plan = fits.plan;
+  counter =
+      let counters = fits.counters in
+      let here = counter_fits s.parts level (length p.event_levels.items) part fits.shares.few lt less in
+      omega (arith, counters, here);
+  inside = subst (All (λ i. i < event_count p)) (sym same) (part_inside (events_of p level) (λ i. i < event_count p) s.parts part (events_inside p fits.valid.graph level lt));
   few =
       let len = ap length same in
-      let few = events_few p valid.graph l lt in
-      let most : event_count p ≤ EVENTS = valid.plan.numbering.few in
-      omega (arith, len, few, most);
+      let short = part_short (events_of p level) s.parts part in
+      let few = events_few p fits.valid.graph level lt in
+      let most : event_count p ≤ EVENTS = fits.valid.plan.numbering.few in
+      omega (arith, len, short, few, most);
 }
 
-pub can_level : (b : Board) (p : Plan) (from l : ℕ) → IsValidPlan p → l < length p.event_levels.items → (start r : Runner) → IsSettling b p from l start r
-    → CanSweep b (from + l) (events_of p l) r
-can_level b p from l valid lt start r ready = record {
-  hand = ready.hand;
-  free = ready.free;
-  unused = ready.unused (from + l) (omega arith);
-  room = let room = ready.room in let next = next_room p valid.graph l lt in omega (arith, room, next);
-}
-
-pub start_noted : (b : Board) (p : Plan) (from : ℕ) (start : List Runner) → AreSettling b p from 0 start start → (k : ℕ) (d : Runner) → k < length start → IsTrailNoted (hand_view (slice_index_or start k d))
-start_noted b p from start settling k d less = let one-ready = settling.each k d less in one-ready.hand.told.noted
+-- the numbers of its last counter stay the last ones
+pub enough_holds : (p : Plan) (c many : ℕ) (calls : List TakingCall) (m b : Runner) → MakesCalls p calls m b → IsEnough c many m → IsEnough c many b
+enough_holds p c many calls m b made is =
+    elim is [ inl none ↦ inl none | inr last ↦ inr (last.0, calls_hold p calls m b made (place c last.0) last.1, last.2) ]

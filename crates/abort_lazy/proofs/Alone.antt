@@ -133,7 +133,7 @@ module _ (p : Plan) (valid : IsPlan p) (graph : IsGraph p) where
   }
 
   -- all levels are done
-  pub alone_ends : (b : Board) (from : ℕ) (start rs : List Runner) → ((d : Runner) → (slice_index_or start 0 d).kept.items ≡ []) → AreSettling b p from (length p.event_levels.items) start rs → IsSettledByRoot p start rs
+  pub alone_ends : (b : Board) (from : ℕ) (start rs : List Runner) → ((d : Runner) → (slice_index_or start 0 d).kept.items ≡ []) → AreSettling b p from start rs → IsSettledByRoot p start rs
   alone_ends b from start rs empty settling one d lone =
       let alone = settling.alone one d lone in
       record {

@@ -202,12 +202,12 @@ module _ {p : Plan} {cap counters : ℕ} {ws : List ℕ} {v : View} (end : EndsS
 -- ---- all runners
 
 module _ (p : Plan) (valid : IsValidPlan p) (b : Board) (from : ℕ) (start rs : List Runner) (idle : ℕ) (d : Runner) (begun : AreAtStart from start)
-    (settling : AreSettling b p from (length p.event_levels.items) start rs) (some : 0 < length rs) {cap : ℕ} {ws : List ℕ} (end : EndsSound p cap (counters_of b) ws (root_view idle d rs)) where
+    (settling : AreSettling b p from start rs) (some : 0 < length rs) {cap : ℕ} {ws : List ℕ} (end : EndsSound p cap (counters_of b) ws (root_view idle d rs)) where
   abbrev calls : ℕ → List TakingCall
   calls = calls_made p valid b from start rs idle d begun settling some end
 
   made : (k : ℕ) → k < length rs → MakesCalls p (calls k) (slice_index_or start k d) (slice_index_or rs k d)
-  made = made_of p b from (length p.event_levels.items) start rs d settling
+  made = made_of p b from start rs d settling
 
   before : (k : ℕ) → k < length rs → k < length start
   before k lt = subst (λ n. k < n) settling.len lt
@@ -242,7 +242,7 @@ module _ (p : Plan) (valid : IsValidPlan p) (b : Board) (from : ℕ) (start rs :
     },
   )
     where
-      one : IsSettling b p from (length p.event_levels.items) (slice_index_or start k d) (slice_index_or rs k d)
+      one : IsSettling b p from settling.shares.parts (length p.event_levels.items) (slice_index_or start k d) (slice_index_or rs k d)
       one = settling.each k d lt
 
       tag : (hand_view (slice_index_or rs k d)).tag ≡ k + 1

@@ -1,6 +1,6 @@
 -- From what exploring left to what is closed.
-use Rattle.std.proofs.Common.{◌≡◌, ℕ, zero, suc, ◌+◌, ◌<◌, ◌≤◌, List, [], ◌∷◌, ◌++◌, length, map, refl, sym, ap, ◌∙◌, subst, inl, inr, arith}
-use Rattle.std.specs.Prelude.{Contains, drop, take, slice_index_or}
+use Rattle.std.proofs.Common.{◌≡◌, ℕ, zero, suc, ◌+◌, ◌*◌, ◌<◌, ◌≤◌, List, [], ◌∷◌, ◌++◌, length, map, refl, sym, ap, ◌∙◌, subst, inl, inr, arith}
+use Rattle.std.specs.Prelude.{All, Contains, drop, take, slice_index_or}
 use Rattle.std.proofs.lemmas.Bool.{cases_lt}
 use Rattle.std.proofs.lemmas.List.{length-map, get_or-map}
 use Rattle.morph_base.specs.declared.plan.Plan.{Plan}
@@ -10,7 +10,7 @@ use Rattle.morph_base.specs.Plans.{event_count}
 use Rattle.op_words.specs.declared.board.Board.{Board}
 use Rattle.op_words.specs.declared.trail.View.{View}
 use Rattle.op_words.specs.Closing.{IsJoined}
-use Rattle.op_words.specs.Hands.{plan_of, counters_of}
+use Rattle.op_words.specs.Hands.{plan_of}
 use Rattle.op_words.specs.Views.{joined_of}
 use Rattle.op_eval.specs.declared.runner.Runner.{Runner}
 use Rattle.op_eval.specs.declared.runners.Runners.{Runners}
@@ -18,38 +18,30 @@ use Rattle.op_eval.specs.Exploring.{MayExplore}
 use Rattle.op_eval.specs.Gathering.{runners_of, gathered, HasPlaces, AreAtRest}
 use Rattle.op_eval.specs.Lending.{with_runners}
 use Rattle.op_eval.specs.Running.{hand_view}
-use Rattle.abort_lazy.specs.Runs.{IsSettledByRoot, AreSettling, AreAllHands, idled, root_view}
-use Rattle.abort_lazy.proofs.Alone.{alone_begins, alone_ends}
+use Rattle.abort_lazy.specs.Runs.{IsSettledByRoot, IsSettling, AreSettling, AreAllHands, idled, root_view}
+use Rattle.abort_lazy.proofs.Alone.{alone_ends}
 use Rattle.abort_lazy.proofs.Levelling.{first_room}
 use Rattle.abort_lazy.proofs.Advancing.{tried_none}
 use Rattle.abort_lazy.proofs.Gathered.{gathered_made, gathered_tag, gathered_joined, gathered_has}
 use Rattle.abort_lazy.proofs.Idle.{idled_all, idled_made, idled_none, idled_root, idled_tag}
 
-pub settling_begins : (b : Board) (p : Plan) (from : ℕ) (rs : Runners) → IsValidPlan p → p ≡ plan_of b → from ≤ counters_of b → MayExplore b from rs → AreSettling b p from 0 (runners_of rs) (runners_of rs)
-settling_begins b p from rs valid plan counters explored = record {
-  counters = omega (arith, counters);
-  len = refl;
-  each = λ k d lt.
-      let r : Runner = slice_index_or (runners_of rs) k d in
-      let exploring = explored.exploring k d lt in
-      record {
-        tried = tried_none p from r;
-        hand = explored.rest.hands k d lt;
-        free = explored.rest.free k d lt;
-        unused = λ c above. explored.unused c (omega (arith, above)) k d lt;
-        room = let room = exploring.room in let first = first_room p in let same = ap event_count plan in omega (arith, room, first, same);
-        tag = refl;
-        made = refl;
-        journal_room = refl;
-        joined = refl;
-      };
-  enough = λ l less. absurd (omega (arith, less));
-  first = λ l less. absurd (omega (arith, less));
-  shared = λ l less. absurd (omega (arith, less));
-  alone = λ only d lone. alone_begins p valid.plan valid.graph (slice_index_or (runners_of rs) 0 d);
-}
+pub settling_begins : (b : Board) (p : Plan) (from : ℕ) (rs : Runners) → p ≡ plan_of b → MayExplore b from rs → (parts : ℕ) → All (λ r. IsSettling b p from parts 0 r r) (runners_of rs)
+settling_begins b p from rs plan explored parts k d lt =
+    let r : Runner = slice_index_or (runners_of rs) k d in
+    let exploring = explored.exploring k d lt in
+    record {
+      tried = tried_none p from parts 0 (λ c. c < 0 * parts) r;
+      hand = explored.rest.hands k d lt;
+      free = explored.rest.free k d lt;
+      unused = λ c none. explored.unused (from + c) (omega arith) k d lt;
+      room = let room = exploring.room in let first = first_room p in let same = ap event_count plan in omega (arith, room, first, same);
+      tag = refl;
+      made = refl;
+      journal_room = refl;
+      joined = refl;
+    }
 
-module _ (b : Board) (p : Plan) (from level : ℕ) (start rs : List Runner) (settling : AreSettling b p from level start rs) where
+module _ (b : Board) (p : Plan) (from : ℕ) (start rs : List Runner) (settling : AreSettling b p from start rs) where
   pub settling_rests : AreAtRest b start → AreAtRest b rs
   settling_rests rest = record {
     some = subst (λ n. 0 < n) (sym settling.len) rest.some;
@@ -87,34 +79,34 @@ places_back rs items len places = record {
 }
 
 -- what stands in the place of the runners that were lent
-module _ (b : Board) (p : Plan) (from level : ℕ) (rs : Runners) (start items : List Runner) (same : start ≡ runners_of rs) (settling : AreSettling b p from level start items) where
+module _ (b : Board) (p : Plan) (from : ℕ) (rs : Runners) (start items : List Runner) (same : start ≡ runners_of rs) (settling : AreSettling b p from start items) where
   back_len : length items ≡ length (runners_of rs)
   back_len = settling.len ∙ ap length same
 
   pub back_is : runners_of (with_runners rs items) ≡ items
   back_is = items_back (runners_of rs) items back_len
 
-  settling_now : AreSettling b p from level (runners_of rs) items
-  settling_now = subst (λ xs. AreSettling b p from level xs items) same settling
+  settling_now : AreSettling b p from (runners_of rs) items
+  settling_now = subst (λ xs. AreSettling b p from xs items) same settling
 
-  pub settled_back : AreSettling b p from level (runners_of rs) (runners_of (with_runners rs items))
-  settled_back = subst (AreSettling b p from level (runners_of rs)) (sym back_is) settling_now
+  pub settled_back : AreSettling b p from (runners_of rs) (runners_of (with_runners rs items))
+  settled_back = subst (AreSettling b p from (runners_of rs)) (sym back_is) settling_now
 
   pub all_back : MayExplore b from rs → AreAllHands (runners_of rs) → AreAllHands (runners_of (with_runners rs items))
-  all_back explored all = subst AreAllHands (sym back_is) (settling_all b p from level (runners_of rs) items settling_now explored.rest.some all)
+  all_back explored all = subst AreAllHands (sym back_is) (settling_all b p from (runners_of rs) items settling_now explored.rest.some all)
 
   pub given_back : MayExplore b from rs → HasPlaces (with_runners rs items) × AreAtRest b (runners_of (with_runners rs items))
   given_back explored = (
     places_back rs items back_len explored.places,
-    subst (AreAtRest b) (sym back_is) (settling_rests b p from level (runners_of rs) items settling_now explored.rest),
+    subst (AreAtRest b) (sym back_is) (settling_rests b p from (runners_of rs) items settling_now explored.rest),
   )
 
 -- a lone root has settled all
 pub alone_back : (b : Board) (p : Plan) (from : ℕ) (rs : Runners) (start items : List Runner) → start ≡ runners_of rs → IsValidPlan p → MayExplore b from rs
-    → AreSettling b p from (length p.event_levels.items) start items → IsSettledByRoot p (runners_of rs) (runners_of (with_runners rs items))
+    → AreSettling b p from start items → IsSettledByRoot p (runners_of rs) (runners_of (with_runners rs items))
 alone_back b p from rs start items same valid explored settling =
     alone_ends p valid.plan valid.graph b from (runners_of rs) (runners_of (with_runners rs items)) (λ d. let first = explored.exploring 0 d explored.rest.some in first.kept)
-    (settled_back b p from (length p.event_levels.items) rs start items same settling)
+    (settled_back b p from rs start items same settling)
 
 -- ---- joins
 

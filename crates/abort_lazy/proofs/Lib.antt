@@ -20,17 +20,17 @@ pub mod Completing
 pub mod Trying
 -- Sums over lists, and over the numbers below n.
 pub mod Summing
--- A runner's bursts of numbers at one level, and the events that it tries.
+-- A runner's bursts of numbers at one part of a level, and the events that it tries.
 pub mod Sweeping
--- The events of each level of a plan, and how many are still to come.
+-- The events of each level of a plan and of its parts, and how many are still to come.
 pub mod Levelling
 -- A lone root settles all events, level by level.
 pub mod Alone
 -- A lone root that leaves nothing settles each operation from the word at which it judged it.
 pub mod Agreeing
--- One level of events after another, by one runner and by all.
+-- One part of a level after another, by one runner.
 pub mod Advancing
--- All levels of events, where each runner goes over them by itself.
+-- All levels of events, where each runner goes over them by itself, part by part.
 pub mod Staging
 -- What the root's view has after the hands of idle workers were joined into it.
 pub mod Idle

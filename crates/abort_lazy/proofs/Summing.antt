@@ -1,12 +1,12 @@
 -- Sums over lists and over the numbers below one.
-use Rattle.std.proofs.Common.{◌≡◌, ℕ, zero, suc, ◌+◌, ◌<◌, ◌≤◌, Bool, true, false, cond, List, [], ◌∷◌, length, map, refl, sym, ap, ◌∙◌, subst, inl, inr, arith}
+use Rattle.std.proofs.Common.{◌≡◌, ℕ, zero, suc, ◌+◌, ◌*◌, ◌<◌, ◌≤◌, Bool, true, false, cond, List, [], ◌∷◌, length, map, refl, sym, ap, ◌∙◌, subst, inl, inr, arith}
+use Rattle.std.specs.List.{flat_map}
 use Rattle.std.specs.Prelude.{Contains, filter, slice_index_or, sum_by}
-use Rattle.std.proofs.lemmas.Bool.{cases_lt}
+use Rattle.std.proofs.lemmas.Bool.{cases_eq, cases_lt}
 use Rattle.std.proofs.lemmas.List.FromFn.{fill_by_all, length-range_with_len, get_or-range_with_len}
-use Rattle.std.proofs.lemmas.List.Sums.{sum_by-cons, sum_by_push}
+use Rattle.std.proofs.lemmas.List.Sums.{sum_by-append, sum_by-cons}
 use Rattle.morph_base.specs.Graphs.{below}
-use Rattle.morph_base.proofs.LevelLaws.{below_more}
-use Rattle.op_words.proofs.Sizes.{sum_below}
+use Rattle.op_words.proofs.Sizes.{sum_above, sum_below}
 use Rattle.op_eval.proofs.Elements.{contains_first, contains_later}
 
 module _ {A : Type 0} where
@@ -57,6 +57,19 @@ module _ {A : Type 0} where
       split true = sum_by-cons f x (filter q xs)
       split false = omega arith
 
+-- over the lists that are joined
+pub sum_flat_map : {A B : Type 0} (f : A → ℕ) (g : B → List A) (ys : List B) → sum_by f (flat_map g ys) ≡ sum_by (λ y. sum_by f (g y)) ys
+sum_flat_map f g [] = refl
+sum_flat_map {A} {B} f g (y ∷ ys) =
+    let rest = sum_flat_map f g ys in
+    let one = sum_by-append f (g y) (flat_map g ys) in
+    let two = sum_by-cons (λ (z : B). sum_by f (g z)) y ys in
+    omega (arith, rest, one, two)
+
+pub sum_length : {A : Type 0} (xs : List A) → sum_by (λ x. 1) xs ≡ length xs
+sum_length [] = refl
+sum_length {A} (x ∷ xs) = let rest = sum_length xs in let first = sum_by-cons (λ (y : A). 1) x xs in omega (arith, rest, first)
+
 -- over two lists in either order
 pub sum_swap : {A B : Type 0} (f : A → B → ℕ) (xs : List A) (ys : List B) → sum_by (λ x. sum_by (f x) ys) xs ≡ sum_by (λ y. sum_by (λ x. f x y) xs) ys
 sum_swap {A} {B} f [] ys = sym (sum_none ys)
@@ -68,9 +81,6 @@ sum_swap {A} {B} f (x ∷ xs) ys =
     one ∙ ap (λ n. sum_by (f x) ys + n) rest ∙ sym both ∙ sym each
 
 -- ---- over the numbers below n
-
-pub sum_more : (f : ℕ → ℕ) (n : ℕ) → sum_by f (below (n + 1)) ≡ sum_by f (below n) + f n
-sum_more f n = ap (sum_by f) (below_more n) ∙ sum_by_push f (below n) n
 
 pub below_same : (f g : ℕ → ℕ) (n : ℕ) → ((k : ℕ) → k < n → f k ≡ g k) → sum_by f (below n) ≡ sum_by g (below n)
 below_same f g zero same = refl
@@ -101,3 +111,54 @@ below_some f (suc n) some =
 
 pub below_has : (n i : ℕ) → i < n → Contains (below n) i
 below_has n i lt = (i, subst (λ m. i < m) (sym (length-range_with_len 0 n)) lt, get_or-range_with_len 0 n i i lt ∙ omega arith)
+
+-- where only one of them counts
+pub sum_single : (f : ℕ → ℕ) (m n : ℕ) → m < n → ((k : ℕ) → k < n → (k ≡ m → ⊥) → f k ≡ 0) → sum_by f (below n) ≡ f m
+sum_single f m zero lt none = absurd (omega (arith, lt))
+sum_single f m (suc n) lt none =
+    let more = sum_below f n in
+    elim (cases_eq m n) [
+      | inl same ↦
+          let rest = sum_above f n (λ k less. none k (omega (arith, less)) (λ e. absurd (omega (arith, e, same, less)))) in
+          let here = ap f same in
+          omega (arith, more, rest, here)
+      | inr other ↦
+          let rest = sum_single f m n (omega (arith, lt, other)) (λ k less. none k (omega (arith, less))) in
+          let here = none n (omega arith) (λ e. other (sym e)) in
+          omega (arith, more, rest, here)
+    ]
+
+pub sum_fewer : (f : ℕ → ℕ) (n m : ℕ) → n ≤ m → sum_by f (below n) ≤ sum_by f (below m)
+sum_fewer f n zero le = let same : n ≡ 0 = omega (arith, le) in let e = ap (λ k. sum_by f (below k)) same in omega (arith, e)
+sum_fewer f n (suc m) le =
+    let more = sum_below f m in
+    elim (cases_eq n (suc m)) [
+      | inl same ↦ let e = ap (λ k. sum_by f (below k)) same in omega (arith, e)
+      | inr other ↦ let rest = sum_fewer f n m (omega (arith, le, other)) in omega (arith, rest, more)
+    ]
+
+-- in rows of one length
+sum_split : (f : ℕ → ℕ) (n m : ℕ) → sum_by f (below (n + m)) ≡ sum_by f (below n) + sum_by (λ k. f (n + k)) (below m)
+sum_split f n zero = let same : n + 0 ≡ n = omega arith in let e = ap (λ k. sum_by f (below k)) same in omega (arith, e)
+sum_split f n (suc m) =
+    let same : n + suc m ≡ suc (n + m) = omega arith in
+    let e = ap (λ k. sum_by f (below k)) same in
+    let one = sum_below f (n + m) in
+    let two = sum_below (λ k. f (n + k)) m in
+    let rest = sum_split f n m in
+    omega (arith, e, one, two, rest)
+
+pub sum_rows : (f : ℕ → ℕ) (n m : ℕ) → sum_by f (below (n * m)) ≡ sum_by (λ l. sum_by (λ k. f (l * m + k)) (below m)) (below n)
+sum_rows f zero m = let e = ap (λ k. sum_by f (below k)) (none m) in e
+  where
+    none : (k : ℕ) → 0 * k ≡ 0
+    none k = grind arith
+sum_rows f (suc n) m =
+    let e = ap (λ k. sum_by f (below k)) (more n m) in
+    let rest = sum_rows f n m in
+    let split = sum_split f (n * m) m in
+    let last = sum_below (λ l. sum_by (λ k. f (l * m + k)) (below m)) n in
+    omega (arith, e, rest, split, last)
+  where
+    more : (a b : ℕ) → suc a * b ≡ a * b + b
+    more a b = grind arith

@@ -1,4 +1,4 @@
--- Bursts of numbers that a runner takes at one level, and the events that it tries.
+-- Bursts of numbers that a runner takes at one part of a level, and the events that it tries.
 use Rattle.std.proofs.Common.{◌≡◌, ℕ, ◌+◌, ◌-◌, ◌<◌, ◌≤◌, Bool, eqb, false, true, List, [], ◌∷◌, ◌++◌, length, get_or, refl, sym, ap, ◌∙◌, subst, inl, inr, arith}
 use Rattle.std.specs.Prelude.{All, Contains, nat_lt, reverse, slice_index_or, sum_by}
 use Rattle.std.proofs.lemmas.Bool.{false≢true, cases_eq, cond-true, cond-false, eq-eqb, le-ltb, lt-ltb}
@@ -64,7 +64,7 @@ swept_none p c events a unused = record {
   whole = λ lone n below. absurd (omega (arith, below, unused));
 }
 
--- ---- a runner in the middle of a level
+-- ---- a runner in the middle of a part
 
 number_is : (k c q n : ℕ) → Took k q ≡ Took c n → (k ≡ c) × (q ≡ n)
 number_is k c q n e = (cc, cc)
@@ -259,7 +259,7 @@ module _ (p : Plan) (c : ℕ) (events : List ℕ) (a : Runner) where
         whole = λ lone q below. contains_later (Tried i) sweeping.calls (Took c q) (sweeping.whole lone q below);
       }
 
-  -- all numbers of the level were taken, and none is left to be tried
+  -- all numbers of the part were taken, and none is left to be tried
   pub all_swept : (taken next : ℕ) (r : Runner) → IsSweeping p c events taken next [] a r → length events ≤ next → Swept p c events a r × IsThrough c events a r
   all_swept taken next r sweeping past = (
     record {

@@ -100,7 +100,7 @@ no_events c events weight rs none =
 -- ---- the closed board
 
 -- with nothing from n on
-sum_until : (f : ℕ → ℕ) (n m : ℕ) → n ≤ m → ((k : ℕ) → n ≤ k → f k ≡ 0) → sum_by f (below m) ≡ sum_by f (below n)
+pub sum_until : (f : ℕ → ℕ) (n m : ℕ) → n ≤ m → ((k : ℕ) → n ≤ k → f k ≡ 0) → sum_by f (below m) ≡ sum_by f (below n)
 sum_until f n zero le none = let same : 0 ≡ n = omega (arith, le) in ap (λ k. sum_by f (below k)) same
 sum_until f n (suc m) le none =
     elim (cases_eq n (suc m)) [

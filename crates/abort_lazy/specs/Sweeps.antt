@@ -12,7 +12,6 @@ use Rattle.op_eval.specs.declared.runner.Runner.{Runner}
 use Rattle.op_eval.specs.Exploring.{Unused}
 use Rattle.op_eval.specs.Running.{hand_view}
 use Rattle.op_eval.specs.Turns.{CallsInOrder, IsEnough, TakingCall, Took, Tried, MakesTakingCall}
-use Rattle.worker_gate.specs.Sharing.{shared_from}
 use Rattle.abort_lazy.specs.declared.run.level.Sweep.{Sweep}
 use Rattle.abort_lazy.specs.declared.transaction.TxnAnswer.{TxnAnswer}
 use Rattle.abort_lazy.specs.declared.transaction.TxnAnswer.TheVariants.{Settled as AllSettled, NotYet, Busy}
@@ -53,7 +52,7 @@ abbrev pub taken_by : ℕ → (ℕ → ℕ) → TakingCall → ℕ
 taken_by c weight (Took k n) = if k == c then weight n else 0
 taken_by c weight (Tried i) = 0
 
--- The weight of the event with this number in a level, or 0 past the last one
+-- The weight of the event with this number among these, or 0 past the last one
 abbrev pub weight_at : List ℕ → (ℕ → ℕ) → ℕ → ℕ
 weight_at events weight n = if nat_lt n (length events) then weight (slice_index_or events n 0) else 0
 
@@ -97,21 +96,7 @@ pub record HasSwept (s : Sweep) (before after : Runner) : Type 0 where
   pub swept : Swept s.plan.now s.counter s.events.now before after
   pub through : IsThrough s.counter s.events.now before after
 
--- Each runner took numbers and tried events, and one of them saw the counter run out. If the level is shared, each of
--- them did; else only the first took part
-pub record AreSwept (b : Board) (p : Plan) (c : ℕ) (events : List ℕ) (before after : List Runner) : Type 0 where
-  pub len : length after ≡ length before
-  pub hands : All (λ r. IsHandOf b r.hand) after
-  pub each :
-      (k : ℕ) (d : Runner) → k < length before → Swept p c events (slice_index_or before k d) (slice_index_or after k d)
-  pub through : (k : ℕ) × (k < length before)
-      × ((d : Runner) → IsThrough c events (slice_index_or before k d) (slice_index_or after k d))
-  pub first : length events < shared_from → (k : ℕ) (d : Runner) → 0 < k → k < length before
-      → slice_index_or after k d ≡ slice_index_or before k d
-  pub shared : shared_from ≤ length events → (k : ℕ) (d : Runner) → k < length before
-      → IsThrough c events (slice_index_or before k d) (slice_index_or after k d)
-
--- The runner is going over a level. It took this many numbers from the counter, all of them below `next`, and tried the
+-- The runner is going over a part of a level. It took this many numbers from the counter, all of them below `next`, and tried the
 -- events of those that name one, but for the numbers in `rest`, which are still to come
 pub record IsSweeping (p : Plan) (c : ℕ) (events : List ℕ) (taken next : ℕ) (rest : List ℕ) (before now : Runner)
     : Type 0 where

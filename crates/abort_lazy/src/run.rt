@@ -1,6 +1,6 @@
 //! Settles all events of a batch on the shared board, by several runners that are started once and go over the event
 //! levels in order.
-ghost use Rattle.std.specs.Prelude.{◌≡◌, ℕ, ◌+◌, ◌<◌, ◌≤◌, ◌^◌, List as Listed, length, map};
+ghost use Rattle.std.specs.Prelude.{◌≡◌, ℕ, ◌+◌, ◌*◌, ◌<◌, ◌≤◌, ◌^◌, List as Listed, All, length, map};
 ghost use Rattle.morph_base.specs.Graphs.{IsValidPlan};
 ghost use Rattle.morph_base.specs.Limits.{most_workers};
 ghost use Rattle.op_words.specs.Closing.{IsClosed};
@@ -9,14 +9,14 @@ ghost use Rattle.op_eval.specs.declared.runner.Runner.{Runner as R};
 ghost use Rattle.op_eval.specs.Gathering.{runners_of};
 ghost use Rattle.op_eval.specs.Exploring.{IsExploredBoard};
 ghost use Rattle.abort_lazy.specs.Ended.{AddsEmpty, AreAtStart, AreTries, AreCauses};
-ghost use Rattle.abort_lazy.specs.Runs.{AreSettling, AreAllHands, IsSettledByRoot, IsSettledRun, idled, root_view};
+ghost use Rattle.abort_lazy.specs.Runs.{AreSettling, AreAllHands, IsSettledByRoot, IsSettledRun, IsSettling, idled, root_view};
 
 use morph_base::{List, Plan};
 use op_eval::{Explored, Left, Runner, Runners};
 use op_words::{Board, Closed, Hand};
 use std::alloc::Global;
 use std::thread::Threads;
-use worker_gate::threads_for;
+use worker_gate::{Shares, threads_for};
 
 mod level;
 mod levels;
@@ -39,7 +39,8 @@ impl Drop for SettledRun {
     }
 }
 
-/// Tries the events of all levels, by workers that are started once. Each level has a counter of its own.
+/// Tries the events of all levels, by workers that are started once. Each level is cut into up to 4 parts, each with a
+/// counter of its own.
 fn settle_levels<T: Threads + Sync>(
     rt: &T,
     board: &Board,
@@ -50,27 +51,30 @@ fn settle_levels<T: Threads + Sync>(
     requires plan { plan.now ≡ plan_of board.now }
     requires valid { IsValidPlan plan.now }
     requires some { 0 < length runners.old }
-    requires counters { from + length plan.now.event_levels.items ≤ counters_of board.now }
+    requires counters { from + 4 * length plan.now.event_levels.items ≤ counters_of board.now }
     requires few { counters_of board.now < 2 ^ 32 }
-    requires ready { AreSettling board.now plan.now from 0 runners.old runners.old }
-    ensures settled { AreSettling board.now plan.now from (length plan.now.event_levels.items)
-        runners.old runners.new }
+    requires ready { (parts : ℕ)
+        → All (λ r. IsSettling board.now plan.now from parts 0 r r) runners.old }
+    ensures settled { AreSettling board.now plan.now from runners.old runners.new }
 {
     let levels = Levels {
         board,
         plan,
         from,
-        threads: threads_for(runners.len(), pieces(plan)),
+        shares: Shares::among(runners.len(), threads_for(runners.len(), pieces(plan))),
     };
     go_over_by(rt, runners, &levels);
 }
 
 /// Settles what exploring left: each event is tried once, by a runner that goes over the event levels in order.
 ///
-/// The runners are started once, and each goes over all levels, without a stop between them. Each level has a counter
-/// of its own, the first one being `next_counter` of the run. A runner takes a burst of numbers from it, up to 16, and
-/// tries the events with these numbers in the level. If a level has fewer than 8 events, the first runner goes over it
-/// alone. Else all go over it, each until it saw the counter run out.
+/// The runners are started once, and each goes over all levels, without a stop between them. Each level is cut into up
+/// to 4 parts, each with a counter of its own, the first one being `next_counter` of the run. A runner goes over the
+/// parts of a level one after the other. At a part it takes a burst of numbers from the part's counter, up to 16, and
+/// tries the events with these numbers in the part. If a level has fewer than 8 events, the first runner goes over it
+/// alone. Else all go over it, each until it saw the counters of all parts run out. Each worker begins with a part of its
+/// own, and goes on with the next one in the circle. So workers of different threads, up to 4 of them, begin at different
+/// counters.
 ///
 /// Before a runner tries an event it waits until the event's sources are settled, since other runners may still be at
 /// lower levels. Its patience is bounded, by a number of looks for all levels together. An event whose sources are not
@@ -80,14 +84,13 @@ pub fn settle_all<T: Threads + Sync>(rt: &T, run: Explored, plan: &Plan) -> Sett
     requires explored { IsExploredBoard run }
     requires plan { plan.now ≡ plan_of run.board }
     requires valid { IsValidPlan plan.now }
-    requires counters { run.next_counter + length plan.now.event_levels.items
+    requires counters { run.next_counter + 4 * length plan.now.event_levels.items
         ≤ counters_of run.board }
     requires few { counters_of run.board < 2 ^ 32 }
     ensures board { result.board ≡ run.board }
     ensures run { IsSettledRun result }
-    ensures settled { AreSettling run.board plan.now run.next_counter
-        (length plan.now.event_levels.items)
-        (runners_of run.runners) (runners_of result.runners) }
+    ensures settled { AreSettling run.board plan.now run.next_counter (runners_of run.runners)
+        (runners_of result.runners) }
     ensures alone { IsSettledByRoot plan.now (runners_of run.runners) (runners_of result.runners) }
     ensures all { AreAllHands (runners_of run.runners) → AreAllHands (runners_of result.runners) }
 {
@@ -138,15 +141,13 @@ impl SettledRun {
             (root_view idle d (runners_of self.runners)) result.0 }
         ensures left { AddsEmpty idle (map (λ r. r.kept) (runners_of self.runners)) result.1.items }
         ensures tried { (from : ℕ) (start : Listed R) → IsValidPlan plan.now → AreAtStart from start
-            → AreSettling self.board plan.now from (length plan.now.event_levels.items) start
-            (runners_of self.runners)
+            → AreSettling self.board plan.now from start (runners_of self.runners)
             → AreTries plan.now start (runners_of self.runners) }
         ensures causes { (d : R) (from : ℕ) (start : Listed R)
             (is : IsClosed plan.now (cap_of self.board) (counters_of self.board)
             (root_view idle d (runners_of self.runners)) result.0)
             → IsValidPlan plan.now → AreAtStart from start
-            → AreSettling self.board plan.now from (length plan.now.event_levels.items) start
-            (runners_of self.runners)
+            → AreSettling self.board plan.now from start (runners_of self.runners)
             → AreCauses plan.now is.ends.core (root_view idle d (runners_of self.runners))
             (map (λ list. list.items) result.1.items) }
     {

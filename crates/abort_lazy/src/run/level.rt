@@ -1,4 +1,4 @@
-//! Goes over the events of one level, in bursts of numbers that a runner takes from the level's counter.
+//! Goes over the events of one part of a level, in bursts of numbers that a runner takes from the part's counter.
 ghost use Rattle.std.specs.Prelude.{◌≡◌, ℕ, ◌<◌, ◌≤◌, [], All, length};
 ghost use Rattle.op_words.specs.Hands.{IsHandOf};
 ghost use Rattle.op_eval.specs.declared.burst.TheConstants.{BURST};
@@ -12,7 +12,7 @@ use morph_base::Plan;
 use op_eval::{Burst, Left, Patience, Runner};
 use op_words::Board;
 
-/// The events of a level. Workers take their numbers in the level from a counter.
+/// The events of a part of a level. Workers take their numbers in the part from a counter.
 #[derive(Drop)]
 pub struct Sweep<'a> {
     pub board: &'a Board,

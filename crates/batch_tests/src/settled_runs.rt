@@ -34,7 +34,7 @@ fn one_runner_settles_all_levels(rt: HostRuntime) -> Result<(), Fail> {
     let plan = plan(&rt, rt.alloc())?;
     assert!(rt; plan.event_levels.len() == 4);
     let room = Room::new(rt.alloc(), &plan)?;
-    let run = unexplored(rt.alloc(), &plan, 4)?;
+    let run = unexplored(rt.alloc(), &plan, 16)?;
     let settled = settle_all(&rt, run, &plan);
     let (closed, left) = settled.close(rt.alloc(), &plan, 0);
     assert_eq!(rt; left.len(), 1);

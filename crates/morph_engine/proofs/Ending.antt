@@ -46,6 +46,7 @@ use Rattle.morph_engine.specs.Caps.{cap_for}
 use Rattle.morph_engine.specs.Exploring.{HavePassed, HaveHanded, HasExploredBy}
 use Rattle.morph_engine.specs.Runs.{run_outcome, workers_of, AreFirstRunners, IsPrepared, HasJournalRoom, HavePassedLevels, IsHandedOut, HasRunAlone, HasRun, HasHand, HaveTakenPart, IsJournalledRun}
 use Rattle.morph_engine.proofs.Alone.{IsLoneRun, evaluated_alone, rolled_alone}
+use Rattle.morph_engine.proofs.Passing.{named_few}
 use Rattle.morph_engine.proofs.Reaching.{item_reached, places_reached, root_hand}
 
 -- ---- runners
@@ -115,7 +116,7 @@ further_unseen a b further no_trail no_notes lone o seen =
 module _ (p : Plan) (valid : IsValidPlan p) (x : Prepared) (prepared : IsPrepared p x) (e : Explored) (rs : List Runner) (explored : MayExplore e.board e.next_counter e.runners)
     (same_plan : plan_of e.board ≡ plan_of x.board) (same_cap : cap_of e.board ≡ cap_of x.board) (further : HaveGoneOn (runners_of x.runners) (runners_of e.runners))
     (ran : x.abort ≡ Lazy → IsNewRoot (runners_of x.runners) → HasRunAll p (runners_of e.runners))
-    (settling : AreSettling e.board p e.next_counter (length p.event_levels.items) (runners_of e.runners) rs) (by_root : IsSettledByRoot p (runners_of e.runners) rs) where
+    (settling : AreSettling e.board p e.next_counter (runners_of e.runners) rs) (by_root : IsSettledByRoot p (runners_of e.runners) rs) where
   abbrev before : List Runner
   before = runners_of x.runners
 
@@ -273,24 +274,29 @@ module _ (p : Plan) (valid : IsValidPlan p) (x : Prepared) (prepared : IsPrepare
       rolled_is = lone_rolled one;
     }
 
-    -- each runner took a number from the counter of each level that is shared
+    -- each runner took a number from the counter of each part that is shared
     took_part : HaveTakenPart p (root_view x.idle any rs) (length before) e.next_counter
-    took_part = λ l k lt many_events inside.
-        let there : k < length rs = (let same = many in omega (arith, inside, same)) in
-        let tag = (settling.each k any there).tag ∙ begun.tags k any (subst (λ n. k < n) settling.len there) in
-        elim (settling.shared l lt many_events k any there) [
-          | inl none ↦ absurd (omega (arith, none, many_events))
-          | inr took ↦
-              record {
-                trail = (hand_view (slice_index_or rs k any)).trail;
-                places = (hand_view (slice_index_or rs k any)).places;
-                hand =
-                    subst (λ t. HasHand (root_view x.idle any rs) t (hand_view (slice_index_or rs k any)).trail (hand_view (slice_index_or rs k any)).places) tag
-                    (root_hand x.idle any rs k there);
-                number = took.0;
-                taken = took.1;
-              }
-        ]
+    took_part = record {
+      parts = settling.shares.parts;
+      some = settling.are.some;
+      few = settling.are.few;
+      taken = λ l i k lt many_events part some_event inside.
+          let there : k < length rs = (let same = many in omega (arith, inside, same)) in
+          let tag = (settling.each k any there).tag ∙ begun.tags k any (subst (λ n. k < n) settling.len there) in
+          elim (settling.shared l i lt part many_events k any there) [
+            | inl none ↦ absurd (omega (arith, none, some_event))
+            | inr took ↦
+                record {
+                  trail = (hand_view (slice_index_or rs k any)).trail;
+                  places = (hand_view (slice_index_or rs k any)).places;
+                  hand =
+                      subst (λ t. HasHand (root_view x.idle any rs) t (hand_view (slice_index_or rs k any)).trail (hand_view (slice_index_or rs k any)).places) tag
+                      (root_hand x.idle any rs k there);
+                  number = took.0;
+                  taken = took.1;
+                }
+          ];
+    }
 
     module _ (explore : Explore) (handed stolen : ℕ) (way : HasExploredBy explore p x.abort before e handed stolen) where
       by_strata : explore ≡ Strata → HavePassed p x.abort e handed stolen
@@ -301,13 +307,12 @@ module _ (p : Plan) (valid : IsValidPlan p) (x : Prepared) (prepared : IsPrepare
 
       all_places : HavePassed p x.abort e handed stolen → HavePassedLevels p x.abort (root_view x.idle any rs)
       all_places out =
-          let fewer : length out.levels ≤ counters = (let few = out.passed.few in omega (arith, few, fits)) in
+          let fewer : e.next_counter ≤ counters = (let few = named_few p x.abort e.next_counter out.list out.named in omega (arith, few, fits)) in
           record {
-            levels = out.levels;
-            passed = out.passed;
-            places =
-                places_reached e.board p out.levels (length p.event_levels.items) mid rs
-                (subst (λ from. AreSettling e.board p from (length p.event_levels.items) mid rs) out.passes settling) out.strata x.idle any is.ends fewer some_after (none_joined any);
+            counters = e.next_counter;
+            list = out.list;
+            named = out.named;
+            places = places_reached e.board p e.next_counter out.list mid rs settling out.reached x.idle any is.ends fewer some_after (none_joined any);
           }
 
       all_items : HaveHanded p x.abort before e handed stolen → IsHandedOut p x.abort (workers_of x) (root_view x.idle any rs) handed stolen
@@ -316,7 +321,7 @@ module _ (p : Plan) (valid : IsValidPlan p) (x : Prepared) (prepared : IsPrepare
         balanced = out.balanced;
         reached = λ o found.
             let at = out.reached o found in
-            item_reached e.board p e.next_counter (length p.event_levels.items) mid rs settling x.idle any o (out.inside o found) at.0 at.1 at.2;
+            item_reached e.board p e.next_counter mid rs settling x.idle any o (out.inside o found) at.0 at.1 at.2;
         alone = λ one. out.alone (new_root (one_before one) any);
       }
 
@@ -337,7 +342,7 @@ module _ (p : Plan) (valid : IsValidPlan p) (x : Prepared) (prepared : IsPrepare
         places = λ same. all_places (by_strata same);
         unhanded = λ same. let passed = by_strata same in (passed.none_handed, passed.none_stolen);
         handed_out = λ same. all_items (by_deques same);
-        passes = λ same. (by_strata same).passes;
+        passes = λ same. refl;
         no_passes = λ same. (by_deques same).unused;
         alone = alone;
       }

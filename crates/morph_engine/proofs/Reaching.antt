@@ -1,4 +1,4 @@
--- What was taken was reached, as the closed board shows it: each place of each pass, and each operation from a deque.
+-- What was taken was reached, as the closed board shows it: each place of each counter, and each operation from a deque.
 use Rattle.std.proofs.Common.{◌≡◌, ℕ, zero, suc, ◌+◌, ◌<◌, ◌≤◌, eqb, List, [], ◌∷◌, length, map, refl, sym, ap, ◌∙◌, subst, inl, inr, arith}
 use Rattle.std.specs.Prelude.{Contains, drop, slice_index, slice_index_or, sum_by}
 use Rattle.std.proofs.lemmas.Bool.{cases_eq, cond-true, cond-false, eq-eqb, ne_eqb}
@@ -23,7 +23,7 @@ use Rattle.op_eval.specs.declared.runner.Runner.{Runner}
 use Rattle.op_eval.specs.Gathering.{gathered}
 use Rattle.op_eval.specs.Running.{hand_view}
 use Rattle.op_eval.proofs.Elements.{contains_first, contains_later}
-use Rattle.strata_explorer.specs.Levels.{ops_of, op_of, level_of, AreStrata, IsWholeCounter}
+use Rattle.strata_explorer.specs.Levels.{HaveReached, IsWholeCounter}
 use Rattle.strata_explorer.proofs.Climbing.{union}
 use Rattle.op_eval.specs.Turns.{TakingCall, Took, Tried}
 use Rattle.abort_lazy.specs.Runs.{AreSettling, root_view}
@@ -86,7 +86,7 @@ root_hand n d rs k lt =
     ]
 
 -- what a runner had reached before events were tried
-module _ (b : Board) (p : Plan) (from level : ℕ) (start rs : List Runner) (settling : AreSettling b p from level start rs) (idle : ℕ) (d : Runner) where
+module _ (b : Board) (p : Plan) (from : ℕ) (start rs : List Runner) (settling : AreSettling b p from start rs) (idle : ℕ) (d : Runner) where
   pub item_reached : (o : ℕ) → o < op_count p → (k : ℕ) → k < length start → ((e : Runner) → IsReached p o (hand_view (slice_index_or start k e)).trail) → IsItemReached p (root_view idle d rs) o
   item_reached o in_range k lt reached =
       let there = subst (λ n. k < n) (sym settling.len) lt in
@@ -129,19 +129,19 @@ place_counts c n xs found =
     let is : is_it n n ≡ 1 = cond-true (eqb n n) 1 0 (eq-eqb n n refl) in
     omega (arith, inside, it, is)
 
-module _ (b : Board) (p : Plan) (levels : List ℕ) (level : ℕ) (start rs : List Runner) (settling : AreSettling b p (length levels) level start rs) (strata : AreStrata p levels start) {cap counters : ℕ} {ws : List ℕ} (idle : ℕ) (d : Runner)
-    (end : EndsSound p cap counters ws (root_view idle d rs)) (fits : length levels ≤ counters) (some : 0 < length rs) (none : (hand_view (slice_index_or rs 0 d)).joined ≡ []) where
-  in_counters : (c : ℕ) → c < length levels → c < counters
+module _ (b : Board) (p : Plan) (first : ℕ) (list : ℕ → List ℕ) (start rs : List Runner) (settling : AreSettling b p first start rs) (reached : HaveReached p first list start) {cap counters : ℕ} {ws : List ℕ} (idle : ℕ) (d : Runner)
+    (end : EndsSound p cap counters ws (root_view idle d rs)) (fits : first ≤ counters) (some : 0 < length rs) (none : (hand_view (slice_index_or rs 0 d)).joined ≡ []) where
+  in_counters : (c : ℕ) → c < first → c < counters
   in_counters c lt = omega (arith, lt, fits)
 
   there : (k : ℕ) → k < length start → k < length rs
   there k lt = subst (λ n. k < n) (sym settling.len) lt
 
   -- events are tried with other counters
-  unused : (c : ℕ) → c < length levels → (k : ℕ) (e : Runner) (lt : k < length rs) (m : ℕ) → let here = settling.each k e lt in Contains here.tried.calls (Took c m) → ⊥
+  unused : (c : ℕ) → c < first → (k : ℕ) (e : Runner) (lt : k < length rs) (m : ℕ) → let here = settling.each k e lt in Contains here.tried.calls (Took c m) → ⊥
   unused c low k e lt m found = let here = settling.each k e lt in let only = here.tried.only c m found in let is = only.2 in absurd (omega (arith, low, is))
 
-  all_taken : (c n : ℕ) → c < length levels → n < slice_index ws (counter_base p + c) → (k : ℕ) × (k < length rs) × Contains (hand_view (slice_index_or rs k d)).places (place c n)
+  all_taken : (c n : ℕ) → c < first → n < slice_index ws (counter_base p + c) → (k : ℕ) × (k < length rs) × Contains (hand_view (slice_index_or rs k d)).places (place c n)
   all_taken c n low less =
       let end_is : ℕ = slice_index ws (counter_base p + c) in
       let counted = sum_inside (is_it n) (below end_is) n (below_has end_is n less) in
@@ -152,8 +152,8 @@ module _ (b : Board) (p : Plan) (levels : List ℕ) (level : ℕ) (start rs : Li
       let one = below_some (λ k. weights_of c (is_it n) (slice_index_or rs k d)) (length rs) (omega (arith, counted, it, numbers, total, places)) in
       (one.0, one.1, some_place c n (hand_view (slice_index_or rs one.0 d)).places one.2)
 
-  -- the numbers of a pass's counter are those below what it shows in the end
-  whole : (c : ℕ) → c < length levels → IsWholeCounter c start
+  -- the numbers of a counter of exploring are those below what it shows in the end
+  whole : (c : ℕ) → c < first → IsWholeCounter c start
   whole c low = record {
     end = slice_index ws (counter_base p + c);
     below = λ k e less n found.
@@ -174,9 +174,9 @@ module _ (b : Board) (p : Plan) (levels : List ℕ) (level : ℕ) (start rs : Li
         );
   }
 
-  pub places_reached : (c n : ℕ) → c < length levels → n < length (ops_of p (level_of levels c)) → IsPlaceReached p (root_view idle d rs) c (level_of levels c) n
+  pub places_reached : (c n : ℕ) → c < first → n < length (list c) → IsPlaceReached p (root_view idle d rs) c n (slice_index_or (list c) n 0)
   places_reached c n low less =
-      let one = union p levels start strata d c low (whole c low) n less in
+      let one = union p first list start reached d c low (whole c low) n less in
       let lt = there one.0 one.1 in
       let here = settling.each one.0 d lt in
       let a = slice_index_or start one.0 d in
@@ -187,5 +187,5 @@ module _ (b : Board) (p : Plan) (levels : List ℕ) (level : ℕ) (start rs : Li
         places = (hand_view b).places;
         hand = root_hand idle d rs one.0 lt;
         taken = calls_hold p here.tried.calls a b here.tried.made (place c n) one.2;
-        reached = calls_reached p (op_of p (level_of levels c) n) here.tried.calls a b here.tried.made one.3;
+        reached = calls_reached p (slice_index_or (list c) n 0) here.tried.calls a b here.tried.made one.3;
       }

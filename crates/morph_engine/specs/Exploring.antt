@@ -1,5 +1,5 @@
 -- What workers take operations from while they explore, and what became of these operations
-use Rattle.std.specs.Prelude.{◌≡◌, ◌⊎◌, ℕ, ◌+◌, ◌<◌, ◌≤◌, List, [], All, Contains, length, sum_by}
+use Rattle.std.specs.Prelude.{◌≡◌, ◌⊎◌, ℕ, ◌+◌, ◌*◌, ◌<◌, ◌≤◌, List, [], All, Contains, length, sum_by}
 use Rattle.morph_base.specs.declared.plan.Plan.{Plan}
 use Rattle.morph_base.specs.declared.strategy.Abort.{Abort}
 use Rattle.morph_base.specs.declared.strategy.Abort.TheVariants.{Eager, Lazy}
@@ -13,7 +13,8 @@ use Rattle.op_eval.specs.declared.explored.Explored.{Explored}
 use Rattle.op_eval.specs.declared.runner.Runner.{Runner}
 use Rattle.op_eval.specs.Alone.{IsNewRoot}
 use Rattle.op_eval.specs.Gathering.{runners_of}
-use Rattle.strata_explorer.specs.Levels.{AreStrata, counters_for, level_of}
+use Rattle.strata_explorer.specs.Levels.{counters_for, passed_ops, HaveReached}
+use Rattle.strata_explorer.specs.Parts.{parted_ops}
 use Rattle.steal_explorer.specs.Dealing.{level_one}
 use Rattle.steal_explorer.specs.Handed.{AreReached}
 use Rattle.morph_engine.specs.Crews.{IsCrew}
@@ -65,25 +66,42 @@ pub record AreOwn (p : Plan) (abort : Abort) (x : Items) : Type 0 where
   pub once : abort ≡ Lazy → (h : ℕ → ℕ) → sum_by h x.pushed ≡ sum_by h (below (op_count p))
   pub served : abort ≡ Lazy → x.unserved ≡ []
 
--- ---- levels that passes were made over
+-- ---- what counters are for
 
 -- Passes were made over these levels, the last one first: over each level of the plan, or as many as there are counters
--- for them. Under lazy abort each level was passed once, from the lowest on
-pub record ArePassed (p : Plan) (abort : Abort) (levels : List ℕ) : Type 0 where
+-- for them
+pub record ArePassed (p : Plan) (levels : List ℕ) : Type 0 where
   pub few : length levels ≤ counters_for p
   pub inside : All (λ l. l < length p.op_levels.items) levels
   pub all : ((l : ℕ) → l < length p.op_levels.items → Contains levels l) ⊎ (length levels ≡ counters_for p)
-  pub lazy :
-      abort ≡ Lazy → (length levels ≡ length p.op_levels.items) × ((k : ℕ) → k < length levels → level_of levels k ≡ k)
+
+-- Passes were made over levels, and each counter is for the operations of one pass
+pub record ArePasses (p : Plan) (counters : ℕ) (list : ℕ → List ℕ) : Type 0 where
+  pub levels : List ℕ
+  pub passed : ArePassed p levels
+  pub counted : counters ≡ length levels
+  pub is : (c : ℕ) → list c ≡ passed_ops p levels c
+
+-- Each level of the plan was cut into parts, and each counter is for the operations of one part
+pub record AreParts (p : Plan) (counters : ℕ) (list : ℕ → List ℕ) : Type 0 where
+  pub parts : ℕ
+  pub some : 1 ≤ parts
+  pub few : parts ≤ 4
+  pub counted : counters ≡ length p.op_levels.items * parts
+  pub is : (c : ℕ) → list c ≡ parted_ops p parts c
+
+-- The operations whose places these counters number, by abort
+abbrev pub AreNamed : Plan → Abort → (counters : ℕ) → (list : ℕ → List ℕ) → Type 0
+AreNamed p Eager = ArePasses p
+AreNamed p Lazy = AreParts p
 
 -- ---- runners after exploring
 
--- Passes were made over levels, each with a counter, and nothing was handed out
+-- The levels were passed by counters, whose operations were reached, and nothing was handed out
 pub record HavePassed (p : Plan) (abort : Abort) (e : Explored) (handed stolen : ℕ) : Type 0 where
-  pub levels : List ℕ
-  pub passed : ArePassed p abort levels
-  pub passes : e.next_counter ≡ length levels
-  pub strata : AreStrata p levels (runners_of e.runners)
+  pub list : ℕ → List ℕ
+  pub named : AreNamed p abort e.next_counter list
+  pub reached : HaveReached p e.next_counter list (runners_of e.runners)
   pub none_handed : handed ≡ 0
   pub none_stolen : stolen ≡ 0
 

@@ -26,16 +26,17 @@ use Rattle.op_eval.specs.declared.runner.Runner.{Runner}
 use Rattle.op_eval.specs.Exploring.{MayExplore}
 use Rattle.op_eval.specs.Gathering.{runners_of}
 use Rattle.op_eval.specs.Running.{hand_view}
-use Rattle.strata_explorer.specs.Levels.{counters_for, level_of, ops_of, op_of}
+use Rattle.strata_explorer.specs.Levels.{counters_for}
 use Rattle.abort_lazy.specs.Ended.{AreCauses, causes}
 use Rattle.abort_lazy.specs.Finishing.{settler}
 use Rattle.abort_lazy.specs.Rooms.{IsRoomFor}
-use Rattle.abort_lazy.specs.Runs.{events_of}
+use Rattle.abort_lazy.specs.Runs.{events_of, settling_counters}
+use Rattle.worker_gate.specs.Parts.{part_counter, part_items}
 use Rattle.worker_gate.specs.Sharing.{shared_from}
 use Rattle.morph_engine.specs.declared.prepared.Prepared.{Prepared}
 use Rattle.morph_engine.specs.Caps.{cap_for}
 use Rattle.morph_engine.specs.Teams.{IsTeam}
-use Rattle.morph_engine.specs.Exploring.{explore_of, IsSupply, HasDependentsFor, Items, AreBalanced, AreOwn, ArePassed}
+use Rattle.morph_engine.specs.Exploring.{explore_of, IsSupply, HasDependentsFor, Items, AreBalanced, AreOwn, AreNamed}
 
 -- ---- before
 
@@ -51,13 +52,13 @@ pub record AreFirstRunners (rs : List Runner) : Type 0 where
 abbrev pub workers_of : Prepared → ℕ
 workers_of x = length (runners_of x.runners) + x.idle
 
--- The memory for a batch is taken: a board for the plan, with the cap of its abort and counters for all passes and the
--- levels of events; units; runners that can explore; what they take operations from; the dependents, if they are
+-- The memory for a batch is taken: a board for the plan, with the cap of its abort and counters for exploring and for
+-- settling; units; runners that can explore; what they take operations from; the dependents, if they are
 -- needed; and room for what is settled
 pub record IsPrepared (p : Plan) (x : Prepared) : Type 0 where
   pub plan : plan_of x.board ≡ p
   pub cap : cap_of x.board ≡ cap_for x.abort
-  pub counters : counters_of x.board ≡ counters_for p + length p.event_levels.items
+  pub counters : counters_of x.board ≡ counters_for p + settling_counters p
   pub partition : IsPartition x.units.units (op_count p)
   pub number : x.units.ops ≡ op_count p
   pub ready : MayExplore x.board 0 x.runners
@@ -80,21 +81,21 @@ HasHand v tag trail places =
     ((v.tag ≡ tag) × (v.trail ≡ trail) × (v.places ≡ places))
     ⊎ ((x : Joined) × Contains v.joined x × (x.tag ≡ tag) × (x.trail ≡ trail) × (x.places ≡ places))
 
--- Place n of counter c was taken by a hand, and operation n of level l was reached in that hand's trail
-pub record IsPlaceReached (p : Plan) (v : View) (c l n : ℕ) : Type 0 where
+-- Place n of counter c was taken by a hand, and operation o was reached in that hand's trail
+pub record IsPlaceReached (p : Plan) (v : View) (c n o : ℕ) : Type 0 where
   pub tag : ℕ
   pub trail : List Item
   pub places : List Place
   pub hand : HasHand v tag trail places
   pub taken : Contains places (place c n)
-  pub reached : IsReached p (op_of p l n) trail
+  pub reached : IsReached p o trail
 
--- Passes were made over levels. In each pass every place was taken, and its operation was reached
+-- Levels were passed by counters. Every place of each counter was taken, and its operation was reached
 pub record HavePassedLevels (p : Plan) (abort : Abort) (v : View) : Type 0 where
-  pub levels : List ℕ
-  pub passed : ArePassed p abort levels
-  pub places : (c n : ℕ) → c < length levels → n < length (ops_of p (level_of levels c))
-      → IsPlaceReached p v c (level_of levels c) n
+  pub counters : ℕ
+  pub list : ℕ → List ℕ
+  pub named : AreNamed p abort counters list
+  pub places : (c n : ℕ) → c < counters → n < length (list c) → IsPlaceReached p v c n (slice_index_or (list c) n 0)
 
 -- Operation o was reached in the trail of a hand
 pub record IsItemReached (p : Plan) (v : View) (o : ℕ) : Type 0 where
@@ -141,16 +142,21 @@ pub record HasTaken (v : View) (tag counter : ℕ) : Type 0 where
   pub number : ℕ
   pub taken : Contains places (place counter number)
 
--- The first so many workers took part in settling: each of them took a number from the counter of each level of events
--- that is shared. The counter of the first level of events is from
-abbrev pub HaveTakenPart : Plan → View → (team from : ℕ) → Type 0
-HaveTakenPart p v team from = (l k : ℕ) → l < length p.event_levels.items → shared_from ≤ length (events_of p l) → k < team
-    → HasTaken v (k + 1) (from + l)
+-- The first so many workers took part in settling. Each level of events was cut into parts, and each of these workers
+-- took a number from the counter of each part of each level that is shared, if the part has an event. The counter of the
+-- first part of the first level is from
+pub record HaveTakenPart (p : Plan) (v : View) (team from : ℕ) : Type 0 where
+  pub parts : ℕ
+  pub some : 1 ≤ parts
+  pub few : parts ≤ 4
+  pub taken : (l i k : ℕ) → l < length p.event_levels.items → shared_from ≤ length (events_of p l) → i < parts
+      → 0 < length (part_items (events_of p l) parts i) → k < team
+      → HasTaken v (k + 1) (from + part_counter parts l i)
 
 -- The plan was explored in this way, with this abort, by this many workers, and settled. The closed board is that of
 -- the plan, and shows a view. Each operation has the worker that settled it there, or 0, and the lists say by worker
--- why events were left. By strata every place of each pass was taken and reached. By deques each operation that one
--- took was reached. The counters of settling are those behind the ones of the passes, and by deques there are no passes
+-- why events were left. By strata every place of each counter was taken and reached. By deques each operation that one
+-- took was reached. The counters of settling are those behind the ones of exploring, and by deques these are none
 pub record HasRun (p : Plan) (explore : Explore) (abort : Abort) (workers : ℕ) (closed : Closed)
     (outcome : RunOutcome) : Type 0 where
   pub counters : ℕ
@@ -167,7 +173,7 @@ pub record HasRun (p : Plan) (explore : Explore) (abort : Abort) (workers : ℕ)
   pub places : explore ≡ Strata → HavePassedLevels p abort view
   pub unhanded : explore ≡ Strata → (outcome.handed ≡ 0) × (outcome.stolen ≡ 0)
   pub handed_out : explore ≡ Steal → IsHandedOut p abort workers view outcome.handed outcome.stolen
-  pub passes : (same : explore ≡ Strata) → from ≡ length (places same).levels
+  pub passes : (same : explore ≡ Strata) → from ≡ (places same).counters
   pub no_passes : explore ≡ Steal → from ≡ 0
   pub alone : workers ≡ 1 → HasRunAlone p abort ended.ends.history outcome.lists outcome.by
 

@@ -142,7 +142,7 @@ impl Prepared {
         ensures journal { IfOk result (HasJournalRoom room) }
     {
         let units = units(alloc, plan, strategy.unit)?;
-        let counters = counters(plan) + plan.event_levels.len() as u32;
+        let counters = counters(plan) + 4 * plan.event_levels.len() as u32;
         let (board, root) = board_for(alloc, plan, cap_of(strategy.abort), counters, room)?;
         let team = team_for(plan, workers, side_by_side);
         let runners = Runners::new(alloc, &board, root, team, plan.events.len() as u32)?;

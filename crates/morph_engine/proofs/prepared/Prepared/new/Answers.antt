@@ -20,6 +20,9 @@ units-requires c = let few : op_count c.args.plan.now ≤ EVENT_OPS * EVENTS = o
 pub overflow_cast-counters : goal.overflow_cast-counters
 overflow_cast-counters c = let few = small_event_levels c.args.plan.now c.requires.valid in omega (arith, few, c.len.ensures)
 
+pub overflow_mul-counters : goal.overflow_mul-counters
+overflow_mul-counters c = let few = small_event_levels c.args.plan.now c.requires.valid in omega (arith, few, c.len.ensures)
+
 pub overflow_add-counters : goal.overflow_add-counters
 overflow_add-counters c =
     let few = small_event_levels c.args.plan.now c.requires.valid in

@@ -1,4 +1,4 @@
-use Rattle.std.proofs.Common.{◌≡◌, ◌≤◌, ◌+◌, length, map, sym, ap, ◌∙◌, subst, arith}
+use Rattle.std.proofs.Common.{◌≡◌, ◌≤◌, ◌+◌, map, sym, ap, ◌∙◌, subst, arith}
 use Rattle.morph_base.specs.Contents.{Contents}
 use Rattle.morph_base.specs.declared.plan.Plan.{Plan}
 use Rattle.op_words.specs.Closing.{IsClosed}
@@ -9,7 +9,7 @@ use Rattle.op_eval.specs.Gathering.{runners_of}
 use Rattle.strata_explorer.specs.Levels.{counters_for}
 use Rattle.strata_explorer.proofs.Leveling.{small_levels}
 use Rattle.abort_lazy.specs.Ended.{AreCauses}
-use Rattle.abort_lazy.specs.Runs.{AreSettling, root_view}
+use Rattle.abort_lazy.specs.Runs.{settling_counters, AreSettling, root_view}
 use Rattle.morph_engine.specs.Caps.{cap_for}
 use Rattle.morph_engine.specs.Exploring.{explore_of}
 use Rattle.morph_engine.proofs.Caps.{cap_some}
@@ -25,7 +25,7 @@ settle_all-requires-clause-few g c κs within =
     let p = c.args.plan.now in
     let few = small_event_levels p c.requires.valid in
     let levels = small_levels p c.requires.valid in
-    let is : counters_of c.explore_by-explored.result.0.board ≡ counters_for p + length p.event_levels.items = c.explore_by-explored.ensures.counters ∙ c.requires.prepared.counters in
+    let is : counters_of c.explore_by-explored.result.0.board ≡ counters_for p + settling_counters p = c.explore_by-explored.ensures.counters ∙ c.requires.prepared.counters in
     omega (arith, few, levels, is)
 
 pub close-closed-requires-clause-all : goal.close-closed-requires-clause-all
@@ -85,13 +85,13 @@ returns-clause-ran g c =
     closed_at p cap b (counters_of b) (root_view x.idle d rs) closed (ap plan_of same ∙ told.plan ∙ c.requires.prepared.plan) its_cap (c.close-closed.ensures.closed d) in
     let lists = map (λ (l : Contents Left). l.items) c.close-closed.result.1.items in
     let start = begun p c.requires.valid x c.requires.prepared e rs told.explored told.plan told.cap told.hands told.ran settling by_root in
-    let fits : counters_for p ≤ counters_of b = (let counters : counters_of b ≡ counters_for p + length p.event_levels.items = ap counters_of same ∙ told.counters ∙ c.requires.prepared.counters in omega (arith, counters)) in
+    let fits : counters_for p ≤ counters_of b = (let counters : counters_of b ≡ counters_for p + settling_counters p = ap counters_of same ∙ told.counters ∙ c.requires.prepared.counters in omega (arith, counters)) in
     has_run p c.requires.valid x c.requires.prepared e rs told.explored told.plan told.cap told.hands told.ran settling by_root (counters_of b) fits closed is
     c.close-closed.result.1.items c.close-closed.ensures.left
     (subst (λ n. (z : IsClosed p n (counters_of b) (root_view x.idle d rs) closed) → AreCauses p z.ends.core (root_view x.idle d rs) lists) its_cap
     (λ z.
     c.close-closed.ensures.causes d e.next_counter (runners_of e.runners) z c.requires.valid start
-    (subst (λ board. AreSettling board p e.next_counter (length p.event_levels.items) (runners_of e.runners) rs) (sym c.settle_all.ensures.board) settling)) is)
+    (subst (λ board. AreSettling board p e.next_counter (runners_of e.runners) rs) (sym c.settle_all.ensures.board) settling)) is)
     c.finish-settled.result.by.items (c.finish-settled.ensures.tags cap (counters_of b) (root_view x.idle d rs) is)
     (explore_of x.supply) tallied.handed tallied.stolen told.way
 

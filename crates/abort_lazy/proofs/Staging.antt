@@ -19,7 +19,7 @@ use Rattle.worker_gate.specs.Stages.{InStages}
 use Rattle.worker_gate.proofs.Cutting.{one_part}
 use Rattle.worker_gate.proofs.Ordering.{at_apart, at_inside, counter_again, counter_apart, counter_fits, counter_inside, counter_next, stage_below, turn_for}
 use Rattle.worker_gate.proofs.Stages.{stages_keep, stages_make, stages_rise, stages_single}
-use Rattle.abort_lazy.specs.Levels.{FitsLevels, IsAmid, IsPassed, length_at}
+use Rattle.abort_lazy.specs.Levels.{FitsLevels, IsAmid, IsCounterPassed, length_at}
 use Rattle.abort_lazy.specs.Runs.{AreSettling, HasSettledAlone, IsSettling, WasAtLevel, WasAtTurn, counter_at, events_at, events_of, parted_events, to_come}
 use Rattle.abort_lazy.specs.Sweeps.{CanSweep, IsThrough, Swept}
 use Rattle.abort_lazy.proofs.Advancing.{enough_holds, settling_more, settling_wider}
@@ -34,14 +34,14 @@ module _ (b : Board) (p : Plan) (from : ℕ) (s : Shares) (fits : FitsLevels b p
     -- no turn was made yet
     pub amid_begins : (a r : Runner) → IsSettling b p from s.parts level a r → IsAmid b p from s number level 0 a r
     amid_begins a r old =
-        settling_wider b p from s.parts level (level + 1) (λ k. k < level * s.parts) (IsPassed s number level 0) (to_come p level)
+        settling_wider b p from s.parts level (level + 1) (λ k. k < level * s.parts) (IsCounterPassed s number level 0) (to_come p level)
         (to_come p (level + 1) + (length (events_of p level) - length_at p s number level 0)) (omega arith) (λ k less. inl less)
         (let next = next_room p fits.valid.graph level lt in omega (arith, next)) a r old
 
     -- a turn was made for each part
     pub amid_ends : (a r : Runner) → IsAmid b p from s number level s.parts a r → IsSettling b p from s.parts (level + 1) a r
     amid_ends a r old =
-        settling_wider b p from s.parts (level + 1) (level + 1) (IsPassed s number level s.parts) (λ k. k < (level + 1) * s.parts)
+        settling_wider b p from s.parts (level + 1) (level + 1) (IsCounterPassed s number level s.parts) (λ k. k < (level + 1) * s.parts)
         (to_come p (level + 1) + (length (events_of p level) - length_at p s number level s.parts)) (to_come p (level + 1)) (omega arith)
         (λ k passed.
         elim passed [
@@ -57,7 +57,7 @@ module _ (b : Board) (p : Plan) (from : ℕ) (s : Shares) (fits : FitsLevels b p
 
     module _ (turn : ℕ) (less : turn < s.parts) where
       -- the counter of this turn is that of no turn before
-      new_counter : IsPassed s number level turn (counter_at s number level turn) → ⊥
+      new_counter : IsCounterPassed s number level turn (counter_at s number level turn) → ⊥
       new_counter passed =
           elim passed [
             | inl lower ↦ absurd (omega (arith, lower))
@@ -82,13 +82,13 @@ module _ (b : Board) (p : Plan) (from : ℕ) (s : Shares) (fits : FitsLevels b p
         room = let room = old.room in let more = lengths in let most = short in omega (arith, room, more, most);
       }
 
-      passed_on : (k : ℕ) → IsPassed s number level turn k → IsPassed s number level (suc turn) k
+      passed_on : (k : ℕ) → IsCounterPassed s number level turn k → IsCounterPassed s number level (suc turn) k
       passed_on k passed = elim passed [ inl lower ↦ inl lower | inr at ↦ inr (at.0, (let before = at.1 in omega (arith, before)), at.2) ]
 
       turn_swept : (a m r : Runner) → IsTrailNoted (hand_view a) → IsAmid b p from s number level turn a m → IsHandOf b r.hand → Swept p (from + counter_at s number level turn) (events_at p s number level turn) m r
           → IsAmid b p from s number level (suc turn) a r
       turn_swept a m r noted old hand swept =
-          settling_more p fits.valid.plan fits.valid.graph from s.parts (level + 1) (IsPassed s number level turn) (IsPassed s number level (suc turn)) passed_on (counter_at s number level turn)
+          settling_more p fits.valid.plan fits.valid.graph from s.parts (level + 1) (IsCounterPassed s number level turn) (IsCounterPassed s number level (suc turn)) passed_on (counter_at s number level turn)
           (counter_fits s.parts level (length p.event_levels.items) (part_at s number turn) fits.shares.few lt inside) (inr (turn, omega arith, refl)) a m r noted old.tried sweeps
           (λ i found. let is = sweeps.inside i found in ap (λ k. (event_at p k).level) (sym is.2) ∙ of_level is.0 is.1) b
           (to_come p (level + 1) + (length (events_of p level) - length_at p s number level turn)) (to_come p (level + 1) + (length (events_of p level) - length_at p s number level (suc turn)))
@@ -117,7 +117,7 @@ module _ (b : Board) (p : Plan) (from : ℕ) (s : Shares) (fits : FitsLevels b p
                 elim (cases_lt (length (events_of p level)) shared_from) [
                   | inl few ↦
                       subst (IsAmid b p from s number level (suc turn) a) (sym (was.passed above few))
-                      (settling_wider b p from s.parts (level + 1) (level + 1) (IsPassed s number level turn) (IsPassed s number level (suc turn))
+                      (settling_wider b p from s.parts (level + 1) (level + 1) (IsCounterPassed s number level turn) (IsCounterPassed s number level (suc turn))
                       (to_come p (level + 1) + (length (events_of p level) - length_at p s number level turn)) (to_come p (level + 1) + (length (events_of p level) - length_at p s number level (suc turn)))
                       (omega arith) passed_on (let more = lengths in omega (arith, more)) a m old)
                   | inr many ↦ turn_swept a m r noted old was.hand (was.swept (inr many)).0

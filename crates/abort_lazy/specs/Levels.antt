@@ -23,8 +23,8 @@ CanGoOver b p from s r = FitsLevels b p from s × IsSettling b p from s.parts 0 
 
 -- The counter of this number is that of a lower level, or of the part of this level at which the worker was in one of
 -- its first turns, of which there are `turns`
-abbrev pub IsPassed : Shares → (number level turns : ℕ) → ℕ → Type 0
-IsPassed s number level turns k =
+abbrev pub IsCounterPassed : Shares → (number level turns : ℕ) → ℕ → Type 0
+IsCounterPassed s number level turns k =
     (k < level * s.parts) ⊎ ((turn : ℕ) × (turn < turns) × (k ≡ counter_at s number level turn))
 
 -- How many events the parts of these turns have
@@ -35,5 +35,5 @@ length_at p s number level turns = sum_by (λ turn. length (events_at p s number
 -- parts, and of the levels to come, leave
 abbrev pub IsAmid : Board → Plan → ℕ → Shares → (number level turns : ℕ) → Runner → Runner → Type 0
 IsAmid b p from s number level turns =
-    IsSettlingParts b p from s.parts (level + 1) (IsPassed s number level turns)
+    IsSettlingParts b p from s.parts (level + 1) (IsCounterPassed s number level turns)
     (to_come p (level + 1) + (length (events_of p level) - length_at p s number level turns))

@@ -96,8 +96,8 @@ pub record HasSwept (s : Sweep) (before after : Runner) : Type 0 where
   pub swept : Swept s.plan.now s.counter s.events.now before after
   pub through : IsThrough s.counter s.events.now before after
 
--- The runner is going over a part of a level. It took this many numbers from the counter, all of them below `next`, and tried the
--- events of those that name one, but for the numbers in `rest`, which are still to come
+-- The runner is going over a part of a level. It took this many numbers from the counter, all of them below `next`, and
+-- tried the events of those that name one, but for the numbers in `rest`, which are still to come
 pub record IsSweeping (p : Plan) (c : ℕ) (events : List ℕ) (taken next : ℕ) (rest : List ℕ) (before now : Runner)
     : Type 0 where
   pub calls : List TakingCall

@@ -1,7 +1,6 @@
 pub mod GivenBatches
 pub mod Desks
 pub mod Ahead
-pub mod BatchInHand
 pub mod Rounds
 pub mod Verdicts
 pub mod Courses

@@ -14,7 +14,7 @@ module _ {A : Type 0} where
   abbrev pub waiting_in : Inside A → List Sent
   waiting_in p = known_items p.runner.ring
 
-  -- How many plans the ring can hold
+  -- How many plans can wait
   abbrev pub places_in : Inside A → ℕ
   places_in p = producer_capacity p.planner.ring
 
@@ -27,13 +27,12 @@ module _ {A : Type 0} where
     sent = p.planner.sent;
     last = p.runner.last;
     tail = p.tail;
-    ahead = places_in p - 1;
+    ahead = places_in p;
   }
 
   -- Between two rounds the two ends of the ring are brought together: the runner's end knows everything that was sent
-  -- and not received, and the planner's end knows each free place. One place is for a batch that is read while another
-  -- is planned. No value of the state is above the greatest value of what waits. No more plans were sent than lines were
-  -- read
+  -- and not received, and the planner's end knows each free place. No value of the state is above the greatest value of
+  -- what waits. No more plans were sent than lines were read
   pub record IsPipe (table_count : A → ℕ) (p : Inside A) : Type 0 where
     pub pair : IsPair p.planner.ring p.runner.ring
     pub fifo : received p.runner.ring ++ waiting_in p ≡ sent p.planner.ring

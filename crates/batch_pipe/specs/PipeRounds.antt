@@ -15,8 +15,7 @@ use Rattle.batch_pipe.specs.PlanRuns.{Manner, AreRun, state_after, last_after}
 use Rattle.decision_model.specs.Choices.{no_last}
 
 -- A pipe: its reader, the state of its engine, the plans that wait, how many plans were sent, the outcome of the batch
--- run before, the tail, and how many plans are made to wait. One more may wait, whose batch was read while another was
--- planned
+-- run before, the tail, and how many plans the ring can hold
 pub record PipeView (App : Type 0) : Type 0 where
   pub reader : ReaderView App
   pub engine : Kept
@@ -52,7 +51,7 @@ number_before v = v.sent - length v.waiting
 -- Those that it ran are the first of all that waited, and the others wait. The state, the numbers and the strategies go
 -- on. The teller took the results of all that were run, in order, or refused the last one. If it refused none, and no
 -- memory was refused, all that waited were run, and perhaps some that were sent meanwhile. At least as many plans were
--- sent as there were free places for those that are made to wait, unless a tail was met
+-- sent as there were free places, unless a tail was met
 pub record IsRound {App : Type 0} {Teller : Type 0} (event_of : App → ℕ → Meaning)
     (takes : Teller → Ran → Bool → Teller → Type 0) (m : Manner) (a : PipeView App) (left : Option (List ℕ))
     (teller : Teller) (b : PipeView App) (left' : Option (List ℕ)) (teller' : Teller) : Type 0 where

@@ -1,5 +1,5 @@
 -- Plans that are made of the batches that a reader gives
-use Rattle.std.specs.Prelude.{false, ◌≡◌, ◌≢◌, ℕ, ◌+◌, ◌-◌, ◌≤◌, List, [], ◌∷◌, ◌++◌, length, map, All, Option, Some, None, Result, Ok, Err, IsTrue}
+use Rattle.std.specs.Prelude.{false, ◌≡◌, ◌≢◌, ℕ, ◌+◌, ◌≤◌, List, [], ◌∷◌, ◌++◌, length, map, All, Option, Some, None, Result, Ok, Err, IsTrue}
 use Rattle.morph_base.specs.declared.key.Layout.{Layout}
 use Rattle.morph_base.specs.declared.plan.Plan.{Plan}
 use Rattle.morph_base.specs.Transactions.{Transaction, by_time}
@@ -114,9 +114,9 @@ pub record CanPlan {App : Type 0} (table_count : App → ℕ) (p : Planner App) 
   pub layout : p.layout ≡ layout_by table_count p.reader
   pub counted : p.sent ≤ p.reader.lines.number
 
--- All places that the planner knew to be free were filled, but for one
+-- All places that the planner knew to be free were filled
 abbrev pub HasFilled : {App : Type 0} → Planner App → Planner App → Type 0
-HasFilled a b = length (sent a.ring) + (known_free a.ring - 1) ≤ length (sent b.ring)
+HasFilled a b = length (sent a.ring) + known_free a.ring ≤ length (sent b.ring)
 
 -- The planner did nothing
 abbrev pub IsIdlePlanner : {App : Type 0} → Planner App → Option (List ℕ) → Option Tail → Planner App → Option (List ℕ)

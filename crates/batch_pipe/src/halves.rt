@@ -99,22 +99,16 @@ pub(crate) fn run_halves<
         result.1 runner.new teller.new }
 {
     let mut first = first;
-    let rt = host.rt;
     let alloc = host.alloc;
     let beside = planning && first_ops(runner, &first) >= SHARED_OPS;
     let meeting = Meeting::new(beside);
     if !beside {
         let end = run_half(host, &meeting, runner, teller, &mut first);
-        return (
-            plan_half(rt, alloc, planning, &meeting, planner, source),
-            end,
-        );
+        return (plan_half(alloc, planning, &meeting, planner, source), end);
     }
     join_mut(
-        rt,
-        &mut || -> Option<Tail>
-            requires { IsSync R.row × (IsTrue planning → CanPlan A.table_count planner.now) }
-        { plan_half(rt, alloc, planning, &meeting, planner, source) },
+        host.rt,
+        &mut || plan_half(alloc, planning, &meeting, planner, source),
         &mut || -> RunEnd
             requires { IsSync R.row × CanRun T.can_take host.now.greatest host.now.sent
                 (one_or_none first) runner.now teller.now

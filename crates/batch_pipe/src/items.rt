@@ -1,7 +1,6 @@
 ghost use Rattle.std.specs.Prelude.{◌≡◌};
 ghost use Rattle.morph_base.specs.Graphs.{IsValidPlan};
 ghost use Rattle.batch_pipe.specs.PlanRuns.{picked};
-ghost use Rattle.batch_pipe.specs.BatchInHand.{labelled};
 
 use decision_model::{Last, choose, profile};
 use morph_base::{Layout, Plan, Strategy};
@@ -19,29 +18,6 @@ pub struct Sent {
     pub greatest: u64,
     /// A valid plan of the batch. Its bases are filled in when it is run.
     pub plan: Plan,
-}
-
-/// What a plan is sent with.
-#[derive(Clone, Copy, Debug)]
-pub(crate) struct Label {
-    /// The number of its batch, from 1 on.
-    pub(crate) number: u64,
-    pub(crate) layout: Layout,
-    pub(crate) greatest: u64,
-}
-
-impl Label {
-    /// The plan with this label.
-    pub(crate) fn sent(self, plan: Plan) -> Sent
-        ensures { result ≡ labelled self plan }
-    {
-        Sent {
-            number: self.number,
-            layout: self.layout,
-            greatest: self.greatest,
-            plan,
-        }
-    }
 }
 
 /// The protocol of a ring over which plans go: each is what its parts say of it.

@@ -17,19 +17,16 @@
 //! | `items` | `Sent`, `Ran`, and `Picker`, which picks strategies |
 //! | `teller` | `Teller`, which takes the results |
 //! | `planner`, `runner` | the side that reads and plans; the side that runs |
-//! | `read`, `beside` | reading a batch and planning one; planning one while the next is read |
 //! | `halves`, `meeting` | both sides of a round, side by side or one after the other; how they wait for each other |
 //! | `laws` | what the rounds of a whole run do together |
 #![tactic(auto)]
 
-mod beside;
 mod halves;
 mod items;
 pub mod laws;
 mod meeting;
 mod pipe;
 mod planner;
-mod read;
 mod runner;
 mod tail;
 mod teller;

@@ -82,7 +82,6 @@ fn asks_first(planning: bool, waiting: usize) -> bool
 
 impl<A: EventApp> Pipe<A> {
     /// A pipe of one plan or two that wait while another is run, over a reader and an engine for the same application.
-    /// There is one more place, for a batch that is read while another is planned.
     ///
     /// No value of the engine's state may be above the greatest value of the reader's version.
     pub fn new(
@@ -100,7 +99,7 @@ impl<A: EventApp> Pipe<A> {
         requires small { IsUpTo (greatest_of reader.past.version) (contents engine) }
         ensures { IfOk result (λ pipe. pipe ≡ new_pipe reader engine ahead) }
     {
-        let (producer, consumer) = RingBuffer::with_protocol(alloc, ahead as usize + 1)?;
+        let (producer, consumer) = RingBuffer::with_protocol(alloc, ahead as usize)?;
         Ok(Pipe {
             planner: Planner {
                 reader,
@@ -152,9 +151,7 @@ impl<A: EventApp> Pipe<A> {
     /// If no plan waits and there is no tail, one batch is read and planned first, and its plan goes to the runner
     /// without the ring. Then two halves run side by side, or one after the other if the first plan is small or a tail
     /// was met. The planner reads, plans and sends until it meets a tail or sees no free place; it fills at least the
-    /// places that were free when the halves began, but for the one more. Side by side with a runner that is at work it
-    /// plans a batch of 4,096 events or more while it reads the next one, in a thread of its own, if a place is free for
-    /// each. The runner takes the plans that waited then, in order, and those
+    /// places that were free when the halves began. The runner takes the plans that waited then, in order, and those
     /// that come while the planner is at work. It picks the strategy of each, and hands each result to the teller, in
     /// the caller's thread, before it takes the next plan. Side by side, each half waits for the other, but for no
     /// longer than some milliseconds. If one plan can wait, no result goes to the teller later because the next

@@ -42,4 +42,4 @@ returns g c =
       tail = None;
       ahead = ahead;
     } in
-    ap (λ w. at w (producer_capacity c.in_ok-producer.producer - 1)) p.consumer.1 ∙ ap (at []) (let places = p.producer.2 in omega (arith, places))
+    ap (λ w. at w (producer_capacity c.in_ok-producer.producer)) p.consumer.1 ∙ ap (at []) p.producer.2

@@ -39,7 +39,7 @@ returns-in-Err-clause-round g c =
       sent = c.read_first.new.planner.sent;
       last = p.runner.last;
       tail = Some c.in-Err.tail;
-      ahead = producer_capacity c.read_first.new.planner.ring - 1;
+      ahead = producer_capacity c.read_first.new.planner.ring;
     } in
     let asked : c.asks_first-asked.result ≡ true = asked_is (bool_cases c.asks_first-asked.result) in
     let met = c.asks_first-asked.ensures.0 asked in
@@ -47,7 +47,7 @@ returns-in-Err-clause-round g c =
     let waits : a.waiting ≡ [] = empty_is a.waiting (omega (arith, met.1, many)) in
     subst (λ (v : PipeView g.row.A.Denot). IsRound g.A.EventApp.event_of g.T.Teller.takes m v (g.S.Source.left c.args.source.now) c.args.teller.now b (g.S.Source.left c.read_first.new.source) c.args.teller.now) c.self.view_is
     (round_stopped g.A.EventApp.event_of layout m {a = a} {b = b} c.args.teller.now c.in-Err.tail c.in-Err.ensures.stops (untold a.tail c.is_none-planning.result c.is_none-planning.ensures met.0) waits
-    refl refl refl c.in-Err.ensures.unsent refl (ap (λ r. producer_capacity r - 1) c.in-Err.ensures.ring) c.in-Err.ensures.planner c.self.invariant.numbered)
+    refl refl refl c.in-Err.ensures.unsent refl (ap (λ r. producer_capacity r) c.in-Err.ensures.ring) c.in-Err.ensures.planner c.self.invariant.numbered)
   where
     asked_is : (c.asks_first-asked.result ≡ true) ⊎ (c.asks_first-asked.result ≡ false) → c.asks_first-asked.result ≡ true
     asked_is (inl e) = e
@@ -119,7 +119,7 @@ returns-clause-round g c =
       sent = n.planner.sent;
       last = n.runner.last;
       tail = c.tail_after-self-inside.result;
-      ahead = producer_capacity c.bring_together.new.producer - 1;
+      ahead = producer_capacity c.bring_together.new.producer;
     } in
     let going : IsGoing a = subst (λ (v : PipeView g.row.A.Denot). IsGoing v) (sym c.self.view_is) c.requires.going in
     let h = c.run_halves-stop.ensures in
@@ -136,11 +136,10 @@ returns-clause-round g c =
     f.asked (λ e. ap given (f.idle e).0) in
     let before = i.fifo ∙ ap (λ r. sent r) (sym f.ring) in
     let tell = c.tail_after-self-inside.ensures in
-    let capacity = ap (λ k. k - 1) (bt.sending.0.1 ∙ h.ring.1 ∙ ap (λ r. producer_capacity r) f.ring) in
-    let free = ap (λ r. known_free r) f.ring in
-    let room : a.ahead ≤ known_free q.ring - 1 + length a.waiting = omega (arith, free, i.free) in
+    let capacity = bt.sending.0.1 ∙ h.ring.1 ∙ ap (λ r. producer_capacity r) f.ring in
+    let room = subst (λ (k : ℕ). a.ahead ≤ k + length a.waiting) (ap (λ r. known_free r) (sym f.ring)) i.free in
     subst (λ (v : PipeView g.row.A.Denot). IsRound g.A.EventApp.event_of g.T.Teller.takes m v (g.S.Source.left c.args.source.now) c.args.teller.now b (g.S.Source.left n.source) n.teller) c.self.view_is
-    (round_is g.A.EventApp.event_of layout m {a = a} {b = b} (known_free q.ring - 1) first f.plans plans r before
+    (round_is g.A.EventApp.event_of layout m {a = a} {b = b} (known_free q.ring) first f.plans plans r before
     (ap (λ l. l ++ known_items c.bring_together.new.consumer) (sym bt.receiving.1) ∙ bt.fifo ∙ bt.sending.1)
     i.numbered i.number room one
     (λ some.
@@ -176,7 +175,7 @@ invariant_of-self-2 g c =
       sent = n.planner.sent;
       last = n.runner.last;
       tail = c.tail_after-self-inside.result;
-      ahead = producer_capacity c.bring_together.new.producer - 1;
+      ahead = producer_capacity c.bring_together.new.producer;
     } in
     let h = c.run_halves-stop.ensures in
     let f = c.in-Ok.ensures in

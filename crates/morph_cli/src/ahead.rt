@@ -142,6 +142,8 @@ fn tell_round<
 {
     let (host, settings) = (job.host, &job.settings);
     let mut teller = BatchTeller {
+        rt: host.rt,
+        alloc: host.alloc,
         settings,
         out: &mut ahead.out,
         sink,

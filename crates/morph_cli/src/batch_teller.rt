@@ -7,11 +7,15 @@ use crate::watch::Watched;
 use batch_pipe::{Ran, Teller};
 use morph_io::{Out, Sink};
 use run_text::{Settings, Tally};
+use std::alloc::Global;
+use std::thread::Threads;
 
 /// What counts and writes the result of each batch of a run that reads ahead, as soon as the batch was run. It refuses
 /// a result if a write of it failed.
 #[derive(Drop)]
-pub struct BatchTeller<'sink, 'notes, 'tally, K, N> {
+pub struct BatchTeller<'rt, 'sink, 'notes, 'tally, R, K, N> {
+    pub rt: &'rt R,
+    pub alloc: Global,
     pub settings: &'sink Settings,
     /// What is not yet written: nothing between two batches.
     pub out: &'sink mut Out,
@@ -20,7 +24,7 @@ pub struct BatchTeller<'sink, 'notes, 'tally, K, N> {
     pub tally: &'tally mut Tally,
 }
 
-impl<K: Sink, N: Sink> Teller for BatchTeller<'_, '_, '_, K, N> {
+impl<R: Threads, K: Sink, N: Sink> Teller for BatchTeller<'_, '_, '_, '_, R, K, N> {
     ghost use Rattle.morph_cli.specs.TellerLaws.{tells_on};
 
     ghost can_take = { λ it number. CanTell number (teller_view it.settings.now it.out.now it.tally.now
@@ -46,6 +50,8 @@ impl<K: Sink, N: Sink> Teller for BatchTeller<'_, '_, '_, K, N> {
             audit: None,
         };
         tell_counted(
+            self.rt,
+            self.alloc,
             self.out,
             self.sink,
             self.notes,

@@ -72,7 +72,7 @@ pub fn take_batch<R: Threads + Wait + Sync, A: EventApp, K: Sink, N: Sink, G: Ga
 
 /// Writes and counts a batch that was run, and publishes it if the balances are watched. The result is lent, so that it
 /// is dropped in one place.
-fn tell_and_publish<R: Wait, A: EventApp, K: Sink, N: Sink, G>(
+fn tell_and_publish<R: Threads + Wait, A: EventApp, K: Sink, N: Sink, G>(
     job: &Job<'_, A, R, G>,
     progress: &mut Progress<A>,
     ran: &Watched,
@@ -109,7 +109,8 @@ fn tell_and_publish<R: Wait, A: EventApp, K: Sink, N: Sink, G>(
         × HasRisen (N.faults notes.old) (N.faults notes.new)) }
 {
     let (host, settings) = (job.host, &job.settings);
-    progress.last = tell_counted(&mut progress.out, sink, notes, settings, tally, ran)?;
+    let (rt, alloc, out) = (host.rt, host.alloc, &mut progress.out);
+    progress.last = tell_counted(rt, alloc, out, sink, notes, settings, tally, ran)?;
     publish(host.rt, host.alloc, &mut progress.watching, &ran.end)?;
     Ok(())
 }

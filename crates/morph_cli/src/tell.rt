@@ -27,6 +27,8 @@ use run_text::{
     write_refused,
 };
 use snapshot_reader::Total;
+use std::alloc::Global;
+use std::thread::Threads;
 use version_table::State;
 
 /// A refused line: its number, counted from 1, and the cause.
@@ -38,7 +40,9 @@ pub struct Refusal {
 
 /// Writes a batch that was run, with its number: its lines to the sink, and then to the notes the audit line, if
 /// balances were seen beside it, and the batch's own line, if the notes are on.
-fn tell_batch<K: Sink, N: Sink>(
+fn tell_batch<R: Threads, K: Sink, N: Sink>(
+    rt: &R,
+    alloc: Global,
     out: &mut Out,
     sink: &mut K,
     notes: &mut N,
@@ -63,12 +67,15 @@ fn tell_batch<K: Sink, N: Sink>(
         ⊎ ((IsTrue settings.now.notes) ⊎ IsTrue (is_checked settings.now.check)))
         × HasRisen (N.faults notes.old) (N.faults notes.new))) }
 {
-    write_events(out, sink, settings.report(), &ran.end)?;
+    let threads = settings.workers.saturating_add(settings.ahead);
+    write_events(rt, alloc, threads, out, sink, settings.report(), &ran.end)?;
     note_ran(out, notes, settings, number, ran)
 }
 
 /// Counts a batch that was run, writes it with its number, and returns its outcome.
-pub fn tell_counted<K: Sink, N: Sink>(
+pub fn tell_counted<R: Threads, K: Sink, N: Sink>(
+    rt: &R,
+    alloc: Global,
     out: &mut Out,
     sink: &mut K,
     notes: &mut N,
@@ -99,7 +106,8 @@ pub fn tell_counted<K: Sink, N: Sink>(
         × HasRisen (N.faults notes.old) (N.faults notes.new))) }
 {
     let last = count(tally, &ran.end);
-    tell_batch(out, sink, notes, settings, tally.batches, ran)?;
+    let number = tally.batches;
+    tell_batch(rt, alloc, out, sink, notes, settings, number, ran)?;
     Ok(last)
 }
 

@@ -1,4 +1,5 @@
 pub mod Pieces
+pub mod EventLines
 pub mod Writes
 pub mod Verdicts
 pub mod Workers

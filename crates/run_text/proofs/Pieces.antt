@@ -92,8 +92,17 @@ pub number_stop : {S : Type 0} {w : S → Option (List ℕ)} {f : S → ℕ} {pi
     i < n → text i ≡ piece → IsErr answer → PutsText w f piece (Err e) (buffered s k) (buffered s1 k1) → PutsText w f (from_number text n i) answer (buffered s k) (buffered s1 k1)
 number_stop {piece = piece} text n i answer lt is = piece_stop text (range_with_len 0 n) i 0 answer (inside_range n i lt) (number_is text n i piece lt is)
 
-pub numbers_end : {S : Type 0} {w : S → Option (List ℕ)} {f : S → ℕ} {x : Unit {0}} (text : ℕ → List ℕ) (n i : ℕ) (s : S) (k : List ℕ) → i ≡ n → PutsText w f (from_number text n i) (Ok x) (buffered s k) (buffered s k)
-numbers_end text n i s k all = pieces_end text (range_with_len 0 n) i s k (rw length-range_with_len (omega (arith, all)))
+-- the pieces from one on are this one, and those behind it
+pub number_more : (text : ℕ → List ℕ) (n i : ℕ) → i < n → from_number text n i ≡ text i ++ from_number text n (i + 1)
+number_more text n i lt =
+    from_piece text (range_with_len 0 n) i 0 (inside_range n i lt)
+    ∙ ap (λ l. l ++ from_number text n (i + 1)) (number_is text n i (text i) lt refl)
+
+pub numbers_none : (text : ℕ → List ℕ) (n i : ℕ) → n ≤ i → from_number text n i ≡ []
+numbers_none text n i all = ap (flat_map text) (drop_all i (range_with_len 0 n) (rw length-range_with_len (omega (arith, all))))
+
+pub numbers_end : {S : Type 0} {w : S → Option (List ℕ)} {f : S → ℕ} {x : Unit {0}} (text : ℕ → List ℕ) (n i : ℕ) (s : S) (k : List ℕ) → n ≤ i → PutsText w f (from_number text n i) (Ok x) (buffered s k) (buffered s k)
+numbers_end text n i s k all = put_as (sym (numbers_none text n i all)) (put_nothing s k)
 
 -- ---- texts that are written
 

@@ -1,9 +1,13 @@
 -- The text of a run: the lines of its events, and what is written at the end
-use Rattle.std.specs.Prelude.{ℕ, ◌==◌, not, if◌then◌else◌, List, [], ◌∷◌, ◌++◌, codes, decimal, count_by}
+use Rattle.std.specs.Prelude.{ℕ, ◌==◌, not, if◌then◌else◌, List, [], ◌∷◌, ◌++◌, drop, codes, decimal, count_by}
 use Rattle.std.specs.List.{flat_map, range_with_len}
 use Rattle.morph_base.specs.declared.key.Layout.{Layout}
 use Rattle.morph_base.specs.Transactions.{Transaction, by_time}
 use Rattle.morph_base.specs.States.{State, opening_state, after_all}
+use Rattle.morph_base.specs.declared.plan.Plan.{Plan}
+use Rattle.morph_base.specs.declared.plan.Settled.{Settled}
+use Rattle.morph_base.specs.Graphs.{below}
+use Rattle.morph_engine.specs.Fates.{settled_fate}
 use Rattle.event_reader.specs.declared.cause.Cause.{Cause}
 use Rattle.event_reader.specs.declared.cause.Cause.TheVariants.{Long, Form, Range, Same, Late, Twice, Full}
 use Rattle.event_reader.specs.Accepted.{Accepted, Ending, Ended, RefusedAt, CutOff}
@@ -38,6 +42,10 @@ event_line f = line (event_text f)
 -- The lines of events
 abbrev pub lines_of : List Fate → List ℕ
 lines_of fs = flat_map event_line fs
+
+-- The lines of the events of a plan from one on, up to another, as they were settled
+abbrev pub lines_between : Plan → Settled → (first end : ℕ) → List ℕ
+lines_between p r first end = flat_map (λ i. event_line (settled_fate p r i)) (drop first (below end))
 
 -- What is reported of events: their lines, or nothing in a summary
 abbrev pub told_lines : Report → List Fate → List ℕ

@@ -17,6 +17,7 @@
 //! | `values` | what a value under a name means, by tables, or the default |
 //! | `read_settings` | `settings` and `own_settings` |
 //! | `output` | `write_events`, `write_closing`, `write_refused` |
+//! | `lines` | the lines of the events of a batch, which two threads put together if there are many |
 //! | `text`, `tables` | `event_line`, the line of an event; the lines of the values of tables, or of their sums |
 //! | `tally` | `Tally` |
 //! | `notes`, `checks` | `note_batch`, `note_audit`, `note_tally`; `note_check` and `is_cut`, for journals |
@@ -26,6 +27,7 @@
 mod checks;
 mod choices;
 pub mod laws;
+mod lines;
 mod names;
 mod notes;
 mod output;

@@ -8,18 +8,25 @@ ghost use Rattle.morph_io.specs.Told.{behind, HasRisen};
 ghost use Rattle.morph_io.specs.SinkWrites.{AppendsPart};
 ghost use Rattle.run_text.specs.Text.{lines_of, told_lines, told_values, counts_line, cause_word, refused_text};
 
+use crate::lines::write_lines;
 use crate::report::Report;
 use crate::tables::put_told_values;
 use crate::tally::Tally;
-use crate::text::event_line;
 use event_reader::{Cause, EventApp};
-use morph_base::{Plan, Settled};
 use morph_engine::BatchEnd;
 use morph_io::{LineBuf, Out, Sink, WriteFailed};
+use std::alloc::Global;
+use std::thread::Threads;
 use version_table::State;
 
 /// Writes what is reported of the events of a batch that was run: their lines, or nothing in a summary.
-pub fn write_events<K: Sink>(
+///
+/// If the run has several threads, two of them put the lines of 4,096 events or more together in memory, which `alloc` is
+/// asked for. Lines for which it is refused are put together by one thread, a few at a time.
+pub fn write_events<R: Threads, K: Sink>(
+    rt: &R,
+    alloc: Global,
+    threads: u32,
     out: &mut Out,
     sink: &mut K,
     report: Report,
@@ -38,23 +45,12 @@ pub fn write_events<K: Sink>(
     ensures cause { OnErr result (HasRisen (K.faults sink.old) (K.faults sink.new)) }
 {
     match report {
-        Report::Whole => write_lines(out, sink, end),
+        Report::Whole => {
+            let (plan, settled) = (&end.plan, &end.settled);
+            write_lines(rt, alloc, threads, out, sink, plan, settled)
+        }
         Report::Summary => Ok(()),
     }
-}
-
-/// Writes the lines of events, whole.
-fn write_lines<K: Sink>(out: &mut Out, sink: &mut K, end: &BatchEnd) -> Result<(), WriteFailed>
-    requires empty { out.old ≡ [] }
-    requires plan { IsPlan end.now.plan }
-    requires settled { IsSettledOf end.now.plan end.now.settled }
-    ensures text { WritesText K.written K.faults
-        (lines_of (settled_fates end.now.plan end.now.settled))
-        result sink.old sink.new }
-    ensures empty { OnOk result (out.new ≡ []) }
-{
-    put_events(out, sink, &end.plan, &end.settled)?;
-    out.flush(sink)
 }
 
 /// Writes the closing text: what is reported of the values, and the counts.
@@ -118,28 +114,6 @@ fn cause_name(cause: Cause) -> &'static [u8]
         Cause::Twice => b"twice",
         Cause::Full => b"full",
     }
-}
-
-/// Puts the lines of events, by rising timestamp.
-fn put_events<K: Sink>(
-    out: &mut Out,
-    sink: &mut K,
-    plan: &Plan,
-    settled: &Settled,
-) -> Result<(), WriteFailed>
-    requires plan { IsPlan plan.now }
-    requires settled { IsSettledOf plan.now settled.now }
-    ensures { PutsText K.written K.faults (lines_of (settled_fates plan.now settled.now))
-        result (buffered sink.old out.old) (buffered sink.new out.new) }
-{
-    let mut line = LineBuf::new();
-    for i in 0..plan.events.len() as u32 {
-        line.clear();
-        event_line(plan, settled, i, &mut line);
-        line.word(b"\n");
-        out.put(sink, &line)?;
-    }
-    Ok(())
 }
 
 /// Puts the line of the counts.

@@ -1,7 +1,7 @@
 use Rattle.std.proofs.Common.{rules}
 use Rattle.run_text.specs.Calls.{WritesText}
 use Rattle.run_text.proofs.Pieces.{flushed}
-use Rattle.run_text.proofs.output.write_lines.Goals as goal
+use Rattle.run_text.proofs.lines.write_between.Goals as goal
 
 pub returns-clause-text : goal.returns-clause-text
 returns-clause-text g c =
